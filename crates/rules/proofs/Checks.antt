@@ -1,0 +1,119 @@
+-- What the number of an answer tells of the checks. Assumes nothing.
+use Prim.Native.Nat.{ℕ, _≤_}
+use mathlib.Core.Path.{_≡_, refl, sym, ap, _∙_}
+use mathlib.Core.Bool.{Bool, true, false, cond, _&&_, false≢true}
+use mathlib.Core.List.{List, [], _++_, append-nil}
+use lib.Dec.{leb, eqb}
+use borrow.Author.Tests.{leb-true, le-leb, eqb-false, eqb-true, ne-eqb}
+use native.Mathlib.Omega.{arith}
+use Rattle.rules.specs.declared.Answer.{Answer}
+use Rattle.rules.specs.Calls.{Event, silent, rejected, nfm, nfm-start, intervals, query, bad, Call, timed, typed, answer}
+use Rattle.rules.specs.Tables.{Kind, action, scheduled}
+use Rattle.rules.specs.Rules.{State, Facts, check, inRange, timely, stands, refusal, wait, failed, verdict, ruling, refused, changed, adds, learn}
+
+pub and-left : (x y : Bool) → (x && y) ≡ true → x ≡ true
+and-left true y e = refl
+and-left false y e = e
+
+pub and-right : (x y : Bool) → (x && y) ≡ true → y ≡ true
+and-right true y e = e
+and-right false y e = absurd (false≢true e)
+
+-- ---- Refusals are 1 to 5
+
+low : (x : Bool) (n rest : ℕ) → n ≤ 5 → rest ≤ 5 → check x n rest ≤ 5
+low true n rest h g = g
+low false n rest h g = h
+
+pub refusal-low : (f : Facts) (c : Call) → refusal f c ≤ 5
+unfolding refusal
+refusal-low f (timed t e) = low (inRange e) 2 _ (omega arith) (low (timely f t) 3 _ (omega arith) (low (stands f e) 4 0 (omega arith) (omega arith)))
+refusal-low f (typed (nfm a)) = low (leb a 1) 5 0 (omega arith) (omega arith)
+refusal-low f (typed (nfm-start a s)) = low (leb a 1 && leb s 1) 5 0 (omega arith) (omega arith)
+refusal-low f (typed (intervals l)) = low (scheduled l) 5 0 (omega arith) (omega arith)
+refusal-low f (typed query) = omega arith
+refusal-low f (typed bad) = omega arith
+
+-- an answer that is no refusal comes from a call that passed the checks, and so does a permit
+pub accepted : (w : State) (c : Call) → refused (ruling w c) ≡ false → refusal (w .facts) c ≡ 0
+unfolding ruling
+accepted w c e = go (eqb (refusal (w .facts) c) 0) refl e
+  where
+    n : ℕ
+    n = refusal (w .facts) c
+
+    go : (b : Bool) → eqb n 0 ≡ b → refused (cond b (verdict w c) (answer n 0)) ≡ false → n ≡ 0
+    go true p e = eqb-true n 0 p
+    go false p e =
+        let h = eqb-false n 0 p in
+        let g : refused (answer n 0) ≡ true = rw (le-leb 1 n (omega arith), le-leb n 5 (refusal-low (w .facts) c)) in
+        absurd (false≢true (sym e ∙ g))
+
+pub permit-passed : (w : State) (c : Call) → ruling w c .number ≡ 0 → refusal (w .facts) c ≡ 0
+unfolding ruling
+permit-passed w c e = go (eqb (refusal (w .facts) c) 0) refl e
+  where
+    n : ℕ
+    n = refusal (w .facts) c
+
+    go : (b : Bool) → eqb n 0 ≡ b → (cond b (verdict w c) (answer n 0)) .number ≡ 0 → n ≡ 0
+    go true p e = eqb-true n 0 p
+    go false p e = e
+
+-- a call that passed check 3 is not before the last time
+passed : (ok : Bool) (n rest : ℕ) → eqb n 0 ≡ false → check ok n rest ≡ 0 → (ok ≡ true) × (rest ≡ 0)
+passed true n rest z e = (refl, e)
+passed false n rest z e = absurd (eqb-false n 0 z e)
+
+pub on-time : (f : Facts) (t : ℕ) (e : Event) → refusal f (timed t e) ≡ 0 → f .last ≤ t
+unfolding refusal
+on-time f t e p =
+    let h = passed (inRange e) 2 (check (timely f t) 3 (check (stands f e) 4 0)) refl p .1 in
+    let g = passed (timely f t) 3 (check (stands f e) 4 0) refl h .0 in
+    leb-true (f .last) t (and-left _ _ g)
+
+-- a refused call is added to no list, and changes nothing
+pub refused-adds : (k : Kind) (c : Call) (a : Answer) → refused a ≡ true → adds k c a ≡ []
+unfolding adds
+refused-adds k (timed t e) a h = let g = leb-true 1 (a .number) (and-left _ _ h) in rw (ne-eqb (a .number) 0 (λ z. omega arith))
+refused-adds k (typed l) a h = refl
+
+pub refused-nothing : (w : State) (c : Call) (a : Answer) → refused a ≡ true → learn w c a ≡ w
+unfolding learn
+refused-nothing w c a e = go (refused a) e
+  where
+    go : (b : Bool) → b ≡ true → record { facts = cond b (w .facts) (changed c a (w .facts)); lists = λ k. w .lists k ++ adds k c a } ≡ w
+    go true p = λ i. record { facts = w .facts; lists = λ k. (ap (λ (l : List ℕ). w .lists k ++ l) (refused-adds k c a e) ∙ append-nil (w .lists k)) i }
+    go false p = absurd (false≢true p)
+
+-- ---- 20 carries the wait
+
+failed-wait : (f : Facts) (s n : ℕ) → failed f s n .number ≡ 20 → failed f s n .second ≡ wait f s
+unfolding failed
+failed-wait f s n e = go (eqb n 20) (eqb (f .mode .nfm) 1) refl e
+  where
+    go : (x y : Bool) → eqb n 20 ≡ x → (cond x (cond y (answer 20 (wait f s)) (answer 23 0)) (answer n 0)) .number ≡ 20
+        → (cond x (cond y (answer 20 (wait f s)) (answer 23 0)) (answer n 0)) .second ≡ wait f s
+    go true true p e = refl
+    go true false p e = absurd (omega arith)
+    go false y p e = absurd (eqb-false n 20 p e)
+
+-- where the verdict on a call has a property at number 20, so has the ruling, since no refusal is 20
+ruling-20 : (P : Answer → Type 0) (w : State) (c : Call) → (verdict w c .number ≡ 20 → P (verdict w c)) → ruling w c .number ≡ 20 → P (ruling w c)
+unfolding ruling
+ruling-20 P w c h e = go (eqb (refusal (w .facts) c) 0) e
+  where
+    go : (b : Bool) → (cond b (verdict w c) (answer (refusal (w .facts) c) 0)) .number ≡ 20 → P (cond b (verdict w c) (answer (refusal (w .facts) c) 0))
+    go true e = h e
+    go false e = absurd (omega (arith, refusal-low (w .facts) c))
+
+module _ (w : State) (t s : ℕ) where
+  pub silent-wait : ruling w (timed t (silent s)) .number ≡ 20 → ruling w (timed t (silent s)) .second ≡ wait (w .facts) s
+  unfolding verdict
+  silent-wait = ruling-20 (λ a. a .second ≡ wait (w .facts) s) w (timed t (silent s)) (failed-wait (w .facts) s 20)
+
+  pub rejected-wait : (cause second : ℕ) → ruling w (timed t (rejected s cause second)) .number ≡ 20
+      → ruling w (timed t (rejected s cause second)) .second ≡ wait (w .facts) s
+  unfolding verdict
+  rejected-wait cause second =
+      ruling-20 (λ a. a .second ≡ wait (w .facts) s) w (timed t (rejected s cause second)) (failed-wait (w .facts) s (action s cause second))

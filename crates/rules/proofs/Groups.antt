@@ -1,0 +1,124 @@
+-- The four services' numbers and the six counters as lists: what a store changes. Assumes nothing.
+use Prim.Native.Nat.{ℕ, zero, suc, _+_, _-_, min, _≤_}
+use mathlib.Core.Path.{_≡_, refl, sym, ap, _∙_, subst}
+use mathlib.Core.Bool.{Bool, true, false, cond, _&&_}
+use mathlib.Core.List.{List, [], _∷_}
+use lib.ListN.{getD, set}
+use lib.Dec.{leb, eqb}
+use borrow.Author.Tests.{eqb-true, eqb-false, leb-true, ne-eqb, le-leb}
+use native.Mathlib.Omega.{arith}
+use Rattle.rules.specs.Calls.{Counter, C-BR-1, C-R-1, C-PDP-1, C-PDP-2, C-PDP-3, C-PDP-4}
+use Rattle.rules.specs.Tables.{four, six, ofSix, oneMore, raises}
+use Rattle.rules.specs.Rules.{idle, raised, counted, asked}
+use Rattle.rules.specs.Record.{standsAsked}
+use Rattle.rules.proofs.Checks.{and-left, and-right}
+
+pub of-four : (f : ℕ → ℕ) (s : ℕ) → s ≤ 3 → getD (four f) s 0 ≡ f s
+of-four f zero h = refl
+of-four f (suc zero) h = refl
+of-four f (suc (suc zero)) h = refl
+of-four f (suc (suc (suc zero))) h = refl
+of-four f (suc (suc (suc (suc s)))) h = absurd (omega arith)
+
+pub of-six : (f : Counter → ℕ) (k : Counter) → ofSix (six f) k ≡ f k
+of-six f C-BR-1 = refl
+of-six f C-R-1 = refl
+of-six f C-PDP-1 = refl
+of-six f C-PDP-2 = refl
+of-six f C-PDP-3 = refl
+of-six f C-PDP-4 = refl
+
+pub four-path : {f g : ℕ → ℕ} → ((s : ℕ) → f s ≡ g s) → four f ≡ four g
+four-path p i = four (λ s. p s i)
+
+pub six-path : {f g : Counter → ℕ} → ((k : Counter) → f k ≡ g k) → six f ≡ six g
+six-path p i = six (λ k. p k i)
+
+pub four-cond : (b : Bool) (f g : ℕ → ℕ) → cond b (four f) (four g) ≡ four (λ s. cond b (f s) (g s))
+four-cond true f g = refl
+four-cond false f g = refl
+
+-- a store for service u of something that hangs on its number
+pub set-four : (f e h : ℕ → ℕ) (u : ℕ) → set (four e) u (h (getD (four f) u 0)) ≡ four (λ s. cond (eqb u s) (h (f s)) (e s))
+set-four f e h zero = refl
+set-four f e h (suc zero) = refl
+set-four f e h (suc (suc zero)) = refl
+set-four f e h (suc (suc (suc zero))) = refl
+set-four f e h (suc (suc (suc (suc u)))) =
+    let n = suc (suc (suc (suc u))) in
+    rw (ne-eqb n 0 (omega arith), ne-eqb n 1 (omega arith), ne-eqb n 2 (omega arith), ne-eqb n 3 (omega arith))
+
+-- ---- Back-off
+
+-- `row s` is how often service s backed off in a row; where b holds, service u does so once more, at time t with a wait by `w` of its failures
+module _ (b : Bool) (u : ℕ) (row : ℕ → ℕ) where
+  pub failures-more : cond b (set (four (λ s. min (row s) 255)) u (oneMore (getD (four (λ s. min (row s) 255)) u 0))) (four (λ s. min (row s) 255))
+      ≡ four (λ s. min (cond (b && eqb u s) (suc (row s)) (row s)) 255)
+  failures-more = go b
+    where
+      capped : (s : ℕ) (y : Bool) → cond y (oneMore (min (row s) 255)) (min (row s) 255) ≡ min (cond y (suc (row s)) (row s)) 255
+      capped s true = omega arith
+      capped s false = refl
+
+      go : (x : Bool) → cond x (set (four (λ s. min (row s) 255)) u (oneMore (getD (four (λ s. min (row s) 255)) u 0))) (four (λ s. min (row s) 255))
+          ≡ four (λ s. min (cond (x && eqb u s) (suc (row s)) (row s)) 255)
+      go true = set-four (λ s. min (row s) 255) (λ s. min (row s) 255) oneMore u ∙ four-path (λ s. capped s (eqb u s))
+      go false = refl
+
+  pub ends-more : (end w : ℕ → ℕ) (t second : ℕ) → (b ≡ true → second ≡ w (oneMore (getD (four (λ s. min (row s) 255)) u 0)))
+      → cond b (set (four end) u (t + second)) (four end) ≡ four (λ s. cond (b && eqb u s) (t + w (min (cond (b && eqb u s) (suc (row s)) (row s)) 255)) (end s))
+  ends-more end w t second h = go b h
+    where
+      at : (s : ℕ) (y : Bool) → cond y (t + w (oneMore (min (row s) 255))) (end s) ≡ cond y (t + w (min (cond y (suc (row s)) (row s)) 255)) (end s)
+      at s true = let e : oneMore (min (row s) 255) ≡ min (suc (row s)) 255 = omega arith in ap (λ (n : ℕ). t + w n) e
+      at s false = refl
+
+      go : (x : Bool) → (x ≡ true → second ≡ w (oneMore (getD (four (λ s. min (row s) 255)) u 0)))
+          → cond x (set (four end) u (t + second)) (four end) ≡ four (λ s. cond (x && eqb u s) (t + w (min (cond (x && eqb u s) (suc (row s)) (row s)) 255)) (end s))
+      go true h = rw (h refl) (set-four (λ s. min (row s) 255) end (λ n. t + w (oneMore n)) u ∙ four-path (λ s. at s (eqb u s)))
+      go false h = refl
+
+-- where service u is cleared
+pub failures-cleared : (u : ℕ) (row : ℕ → ℕ) → set (four (λ s. min (row s) 255)) u 0 ≡ four (λ s. min (cond (eqb u s) 0 (row s)) 255)
+failures-cleared u row = set-four (λ s. 0) (λ s. min (row s) 255) (λ n. 0) u ∙ four-path (λ s. at s (eqb u s))
+  where
+    at : (s : ℕ) (y : Bool) → cond y 0 (min (row s) 255) ≡ min (cond y 0 (row s)) 255
+    at s true = refl
+    at s false = refl
+
+-- ---- Standing
+
+pub asked-four : (q : ℕ) (f : ℕ → ℕ) → asked q (four f) ≡ four (λ s. standsAsked s q (f s))
+unfolding asked
+asked-four q f = go (leb q 3) (eqb q 4)
+  where
+    go : (x y : Bool) → cond x (set (four f) q 1) (cond y (set (four f) 2 0) idle) ≡ four (λ s. cond x (cond (eqb q s) 1 (f s)) (cond y (cond (eqb 2 s) 0 (f s)) 0))
+    go true y = set-four f f (λ n. 1) q
+    go false true = refl
+    go false false = refl
+
+-- ---- Counters
+
+pub counted-six : (n : ℕ) (f : Counter → ℕ) → counted n (six f) ≡ six (λ k. cond (raises k n) (oneMore (f k)) (f k))
+unfolding counted
+counted-six n f = go (eqb n 11) (eqb n 13) (eqb n 14) (eqb n 15) (eqb n 16) refl refl refl refl refl
+  where
+    P : ℕ → Type 0
+    P m = counted m (six f) ≡ six (λ k. cond (raises k m) (oneMore (f k)) (f k))
+
+    is : (m : ℕ) → eqb n m ≡ true → P m → P n
+    is m e h = subst (λ (x : ℕ). P x) (sym (eqb-true n m e)) h
+
+    go : (x11 x13 x14 x15 x16 : Bool) → eqb n 11 ≡ x11 → eqb n 13 ≡ x13 → eqb n 14 ≡ x14 → eqb n 15 ≡ x15 → eqb n 16 ≡ x16 → P n
+    go true x13 x14 x15 x16 e11 e13 e14 e15 e16 = is 11 e11 refl
+    go false true x14 x15 x16 e11 e13 e14 e15 e16 = is 13 e13 refl
+    go false false true x15 x16 e11 e13 e14 e15 e16 = is 14 e14 refl
+    go false false false true x16 e11 e13 e14 e15 e16 = is 15 e15 refl
+    go false false false false true e11 e13 e14 e15 e16 = is 16 e16 refl
+    go false false false false false e11 e13 e14 e15 e16 = rw (e11, e13, e14, e15, e16, other (leb 13 n) (leb n 16) refl refl)
+      where
+        other : (x y : Bool) → leb 13 n ≡ x → leb n 16 ≡ y → (leb 13 n && leb n 16) ≡ false
+        other false y p q = rw p
+        other true false p q = rw (p, q)
+        other true true p q =
+            absurd (omega (arith, leb-true 13 n p, leb-true n 16 q, eqb-false n 13 e13, eqb-false n 14 e14, eqb-false n 15 e15, eqb-false n 16 e16))

@@ -1,0 +1,231 @@
+-- However long the record, the newest 255 of each list give the answers that the full lists give. Assumes nothing.
+use Prim.Native.Nat.{ℕ, zero, suc, _+_, _-_, _≤_, _<_}
+use mathlib.Core.Path.{_≡_, refl, sym, ap, _∙_}
+use mathlib.Core.Bool.{Bool, true, false, cond, _&&_}
+use mathlib.Core.List.{List, [], _∷_, _++_, append-nil}
+use lib.ListN.{length, drop, length-append, length-drop}
+use lib.Seq.{drop-append-le, drop-drop}
+use lib.Dec.{ltb, leb, eqb}
+use borrow.Author.Tests.{ltb-true, lt-ltb, le-leb, eqb-true}
+use native.Mathlib.Omega.{arith}
+use Rattle.rules.specs.declared.Answer.{Answer}
+use Rattle.rules.specs.Calls.{Given, Event, ask, granted, silent, rejected, dropped, tick, Line, nfm, nfm-start, intervals, query, bad, Call, timed, typed, answer}
+use Rattle.rules.specs.Tables.{within, inHour, Kind}
+use Rattle.rules.specs.Rules.{State, Facts, Limit, limits, blocks, firstBlock, refusal, verdict, ruling, refused, moved, acted, switched, obeyed, changed, onto, adds, learn}
+use Rattle.rules.specs.Rules.{fresh, known, answers, newest, short, step, held, heldAnswers}
+use Rattle.rules.specs.Demand3.{Bytes}
+use Rattle.rules.proofs.Checks.{and-right, accepted, on-time, refused-adds}
+
+-- ---- Lists of times that rise from a to b
+
+abbrev pub Rising : ℕ → List ℕ → ℕ → Type 0
+Rising a [] b = a ≤ b
+Rising a (p ∷ l) b = (a ≤ p) × Rising p l b
+
+pub rising-le : (a : ℕ) (l : List ℕ) (b : ℕ) → Rising a l b → a ≤ b
+rising-le a [] b h = h
+rising-le a (p ∷ l) b h = omega (arith, rising-le p l b (h .1))
+
+pub rising-more : (a : ℕ) (l : List ℕ) (b c : ℕ) → Rising a l b → b ≤ c → Rising a l c
+rising-more a [] b c h g = omega arith
+rising-more a (p ∷ l) b c h g = (h .0, rising-more p l b c (h .1) g)
+
+rising-snoc : (a : ℕ) (l : List ℕ) (b t : ℕ) → Rising a l b → b ≤ t → Rising a (l ++ (t ∷ [])) t
+rising-snoc a [] b t h g = omega arith
+rising-snoc a (p ∷ l) b t h g = (h .0, rising-snoc p l b t (h .1) g)
+
+-- ---- The newest 255 show what a limit of at most 255 asks
+
+pub within-true : (t p : ℕ) → p ≤ t → t < p + 3600 → within t p ≡ true
+unfolding within
+within-true t p h g = rw (le-leb p t h, lt-ltb t (p + 3600) g)
+
+pub within-late : (t p : ℕ) → within t p ≡ true → t < p + 3600
+unfolding within
+within-late t p e = ltb-true t (p + 3600) (and-right (leb p t) _ e)
+
+pub all-in : (a t : ℕ) (l : List ℕ) → Rising a l t → t < a + 3600 → inHour t l ≡ length l
+all-in a t [] h g = refl
+all-in a t (p ∷ l) h g = rw (within-true t p (rising-le p l t (h .1)) (omega arith), all-in p t l (h .1) (omega arith))
+
+pub enough : (m t p : ℕ) (l : List ℕ) → Rising p l t → m ≤ length l → leb m (inHour t l) ≡ leb m (inHour t (p ∷ l))
+enough m t p l h g = go (within t p) refl
+  where
+    go : (b : Bool) → within t p ≡ b → leb m (inHour t l) ≡ leb m (cond b (suc (inHour t l)) (inHour t l))
+    go false e = refl
+    go true e = let s : inHour t l ≡ length l = all-in p t l h (within-late t p e) in
+        le-leb m (inHour t l) (omega arith) ∙ sym (le-leb m (suc (inHour t l)) (omega arith))
+
+cut : (m t a d : ℕ) (l : List ℕ) → m ≤ 255 → Rising a l t → d ≤ length l - 255 → leb m (inHour t (drop d l)) ≡ leb m (inHour t l)
+cut m t a zero l g h k = refl
+cut m t a (suc d) [] g h k = refl
+cut m t a (suc d) (p ∷ l) g h k = cut m t p d l g (h .1) (omega arith) ∙ enough m t p l (h .1) (omega arith)
+
+pub newest-counts : (m t a : ℕ) (l : List ℕ) → m ≤ 255 → Rising a l t → leb m (inHour t (newest l)) ≡ leb m (inHour t l)
+unfolding newest
+newest-counts m t a l g h = cut m t a (length l - 255) l g h (omega arith)
+
+-- ---- Cutting and adding
+
+pub newest-append : (l m : List ℕ) → newest (newest l ++ m) ≡ newest (l ++ m)
+unfolding newest
+newest-append l m =
+    let e : length l - 255 + (length l + length m - (length l - 255) - 255) ≡ length l + length m - 255 = omega arith in
+    rw (← drop-append-le (length l - 255) l m (omega arith), drop-drop, length-drop, length-append, e)
+
+-- ---- A state whose lists a buffer can stand for
+
+pub record Sound (w : State) : Type 0 where
+  pub bytes : Bytes (w .facts .opening)
+  pub rising : (k : Kind) → Rising (w .facts .opening .opened) (w .lists k) (w .facts .last)
+
+abbrev Small : List Limit → Type 0
+Small [] = Unit {0}
+Small (r ∷ rs) = (r .most ≤ 255) × Small rs
+
+limits-small : (f : Facts) (q : ℕ) → Bytes (f .opening) → Small (limits f q)
+unfolding limits
+limits-small f q b = (b .N1, (b .F1, (b .F2, (b .F3, (b .F4, (b .A1, (b .S1, tt)))))))
+
+-- ---- The ruling is the same over the newest 255
+
+module _ (w : State) (s : Sound w) (t : ℕ) (late : w .facts .last ≤ t) where
+  blocks-same : (r : Limit) → r .most ≤ 255 → blocks (short w) t r ≡ blocks w t r
+  unfolding blocks short
+  blocks-same r h =
+      let up = rising-more _ (w .lists (r .kind)) _ t (s .rising (r .kind)) late in
+      rw (newest-counts (r .most) t (w .facts .opening .opened) (w .lists (r .kind)) h up)
+
+  first-same : (rs : List Limit) → Small rs → firstBlock (short w) t rs ≡ firstBlock w t rs
+  first-same [] h = refl
+  first-same (r ∷ rs) h = rw (blocks-same r (h .0), first-same rs (h .1))
+
+  ask-same : (q : ℕ) → verdict (short w) (timed t (ask q)) ≡ verdict w (timed t (ask q))
+  unfolding verdict short
+  ask-same q = rw (first-same (limits (w .facts) q) (limits-small (w .facts) q (s .bytes)))
+
+cond-same : {A : Type 0} (b : Bool) (x y z : A) → (b ≡ true → x ≡ y) → cond b x z ≡ cond b y z
+cond-same true x y z h = h refl
+cond-same false x y z h = refl
+
+verdict-same : (w : State) → Sound w → (c : Call) → refusal (w .facts) c ≡ 0 → verdict (short w) c ≡ verdict w c
+unfolding verdict short
+verdict-same w s (timed t (ask q)) p = ask-same w s t (on-time (w .facts) t (ask q) p) q
+verdict-same w s (timed t (granted _)) p = refl
+verdict-same w s (timed t (silent _)) p = refl
+verdict-same w s (timed t (rejected _ _ _)) p = refl
+verdict-same w s (timed t dropped) p = refl
+verdict-same w s (timed t tick) p = refl
+verdict-same w s (typed (nfm _)) p = refl
+verdict-same w s (typed (nfm-start _ _)) p = refl
+verdict-same w s (typed (intervals _)) p = refl
+verdict-same w s (typed query) p = refl
+verdict-same w s (typed bad) p = refl
+
+pub ruling-same : (w : State) → Sound w → (c : Call) → ruling (short w) c ≡ ruling w c
+unfolding ruling short
+ruling-same w s c =
+    cond-same (eqb (refusal (w .facts) c) 0) (verdict (short w) c) (verdict w c) (answer (refusal (w .facts) c) 0)
+    (λ e. verdict-same w s c (eqb-true (refusal (w .facts) c) 0 e))
+
+-- ---- What is learned is the same
+
+pub learn-same : (w : State) (c : Call) (a : Answer) → short (learn (short w) c a) ≡ short (learn w c a)
+unfolding short learn
+learn-same w c a i = record {
+  facts = cond (refused a) (w .facts) (changed c a (w .facts));
+  lists = λ k. newest-append (w .lists k) (adds k c a) i;
+}
+
+-- ---- A sound state stays sound
+
+acted-keeps : (t : ℕ) (e : Event) (a : Answer) (f : Facts) → (acted t e a f .opening ≡ f .opening) × (acted t e a f .last ≡ f .last)
+unfolding acted
+acted-keeps t (ask _) a f = (refl, refl)
+acted-keeps t (granted _) a f = (refl, refl)
+acted-keeps t (silent _) a f = (refl, refl)
+acted-keeps t (rejected _ _ _) a f = (refl, refl)
+acted-keeps t dropped a f = (refl, refl)
+acted-keeps t tick a f = (refl, refl)
+
+obeyed-keeps : (l : Line) (f : Facts) → (obeyed l f .opening ≡ f .opening) × (obeyed l f .last ≡ f .last)
+unfolding obeyed switched
+obeyed-keeps (nfm _) f = (refl, refl)
+obeyed-keeps (nfm-start _ _) f = (refl, refl)
+obeyed-keeps (intervals _) f = (refl, refl)
+obeyed-keeps query f = (refl, refl)
+obeyed-keeps bad f = (refl, refl)
+
+rising-added : (o b t : ℕ) (l : List ℕ) (x : Bool) → Rising o l b → b ≤ t → Rising o (l ++ cond x (t ∷ []) []) t
+rising-added o b t l true h g = rising-snoc o l b t h g
+rising-added o b t l false h g = rw append-nil (rising-more o l b t h g)
+
+module _ (w : State) (s : Sound w) (a : Answer) where
+  sound-changed : (c : Call) → refusal (w .facts) c ≡ 0 → Sound (record { facts = changed c a (w .facts); lists = λ k. w .lists k ++ adds k c a })
+  unfolding changed moved adds
+  sound-changed (timed t e) p =
+      let keeps = acted-keeps t e a (moved t (w .facts)) in
+      record {
+        bytes = rw (keeps .0) (s .bytes);
+        rising = λ k. rw (keeps .0, keeps .1) (rising-added _ _ t (w .lists k) (eqb (a .number) 0 && onto e k) (s .rising k) (on-time (w .facts) t e p));
+      }
+  sound-changed (typed l) p =
+      let keeps = obeyed-keeps l (w .facts) in
+      record { bytes = rw (keeps .0) (s .bytes); rising = λ k. rw (keeps .0, keeps .1, append-nil) (s .rising k) }
+
+  sound-answered : (c : Call) → (refused a ≡ false → refusal (w .facts) c ≡ 0) → Sound (learn w c a)
+  unfolding learn
+  sound-answered c h = go (refused a) refl
+    where
+      go : (b : Bool) → refused a ≡ b → Sound (record { facts = cond b (w .facts) (changed c a (w .facts)); lists = λ k. w .lists k ++ adds k c a })
+      go true e = record { bytes = s .bytes; rising = λ k. rw (refused-adds k c a e, append-nil) (s .rising k) }
+      go false e = sound-changed c (h e)
+
+pub sound-learn : (w : State) → Sound w → (c : Call) → Sound (learn w c (ruling w c))
+sound-learn w s c = sound-answered w s (ruling w c) c (accepted w c)
+
+pub known-sound : (w : State) → Sound w → (cs : List Call) → Sound (known w cs)
+known-sound w s [] = s
+known-sound w s (c ∷ cs) = known-sound (learn w c (ruling w c)) (sound-learn w s c) cs
+
+-- ---- Any calls
+
+step-same : (w : State) → Sound w → (c : Call) → step (short w) c ≡ short (learn w c (ruling w c))
+unfolding step
+step-same w s c = rw (ruling-same w s c) (learn-same w c (ruling w c))
+
+answers-same : (w : State) → Sound w → (cs : List Call) → heldAnswers (short w) cs ≡ answers w cs
+answers-same w s [] = refl
+answers-same w s (c ∷ cs) = rw (ruling-same w s c, step-same w s c, answers-same (learn w c (ruling w c)) (sound-learn w s c) cs)
+
+held-same : (w : State) → Sound w → (cs : List Call) → held (short w) cs ≡ short (known w cs)
+held-same w s [] = refl
+held-same w s (c ∷ cs) = rw (step-same w s c) (held-same (learn w c (ruling w c)) (sound-learn w s c) cs)
+
+-- ---- From an opening
+
+pub fresh-sound : (g : Given) → Bytes (g .opening) → Sound (fresh g)
+unfolding fresh
+fresh-sound g b = record { bytes = b; rising = λ k. omega arith }
+
+pub fresh-short : (g : Given) → short (fresh g) ≡ fresh g
+unfolding fresh short newest
+fresh-short g = refl
+
+pub record Bounded (g : Given) (cs : List Call) : Type 0 where
+  -- the answers to the calls are those that the full lists give
+  pub same-answers : heldAnswers (fresh g) cs ≡ answers (fresh g) cs
+  -- and what is held is what is known, each list cut to its newest 255
+  pub same-state : held (fresh g) cs ≡ short (known (fresh g) cs)
+  -- so the next call, whatever it is, is answered the same
+  pub next : (c : Call) → ruling (held (fresh g) cs) c ≡ ruling (known (fresh g) cs) c
+
+pub bounded : (g : Given) → Bytes (g .opening) → (cs : List Call) → Bounded g cs
+bounded g b cs =
+    let s = fresh-sound g b in
+    let e : held (fresh g) cs ≡ short (known (fresh g) cs) = rw (fresh-short g) at (held-same (fresh g) s cs) in
+    record {
+      same-answers = rw (fresh-short g) at (answers-same (fresh g) s cs);
+      same-state = e;
+      next = λ c. rw e (ruling-same (known (fresh g) cs) (known-sound (fresh g) s cs) c);
+    }

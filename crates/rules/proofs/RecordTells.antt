@@ -1,0 +1,226 @@
+-- What the rules know after any calls is what the record of those calls tells, thing by thing. Assumes nothing.
+use Prim.Native.Nat.{ℕ, suc, _+_, _-_, _*_, min, _≤_}
+use mathlib.Core.Path.{_≡_, refl, sym, ap, _∙_}
+use mathlib.Core.Bool.{Bool, true, false, cond, _&&_}
+use mathlib.Core.List.{List, [], _∷_, _++_, append-nil}
+use lib.ListN.{getD, set}
+use lib.Dec.{leb, eqb}
+use borrow.Author.Tests.{eqb-true, eq-eqb}
+use native.Mathlib.Nat.{sub-self}
+use native.Mathlib.Omega.{arith}
+use Rattle.rules.specs.declared.Answer.{Answer}
+use Rattle.rules.specs.Calls.{Opening, Given, Counter, Event, ask, granted, silent, rejected, dropped, tick, Line, nfm, nfm-start, intervals, query, bad, Call, timed, typed, Entry, entry}
+use Rattle.rules.specs.Tables.{Kind, goes, waitFor, moodOn, four, six, rateOf, raises, oneMore}
+use Rattle.rules.specs.Record.{lastTime, nfmNow, startNow, intervalsNow, permitIn, permits, inARow, failures, backOffEnd, standsAsked, standing, mood, leaked, counter}
+use Rattle.rules.specs.Rules.{State, Facts, Mode, withServices, refusal, ruling, refused, wait, points, moved, idle, onGranted, onFailed, acted, switched, obeyed, changed, onto, adds, learn, fresh, known}
+use Rattle.rules.specs.Rules.{answers, counted}
+use Rattle.rules.specs.Told.{tells, ruled, entered, onward, ruledAll, told, AsTold}
+use Rattle.rules.proofs.Checks.{accepted, on-time, refused-adds, silent-wait, rejected-wait}
+use Rattle.rules.proofs.Groups.{of-four, of-six, four-path, four-cond, six-path, set-four, failures-more, ends-more, failures-cleared, asked-four, counted-six}
+use Rattle.rules.proofs.Leaks.{pointsTo, one-by-one}
+
+-- facts by their parts, and a path between two that agree on what was settled, on the time and on the mood
+abbrev factsOf : Opening → Mode → ℕ → (counters failures ends standing : List ℕ) → ℕ → Facts
+factsOf o m l c f e s d = record { opening = o; mode = m; last = l; counters = c; services = record { failures = f; ends = e; standing = s; mood = d } }
+
+facts-path : {c c′ f f′ e e′ s s′ : List ℕ} (o : Opening) (m : Mode) (l d : ℕ) → c ≡ c′ → f ≡ f′ → e ≡ e′ → s ≡ s′ → factsOf o m l c f e s d ≡ factsOf o m l c′ f′ e′ s′ d
+facts-path o m l d p q r z i = factsOf o m l (p i) (q i) (r i) (z i) d
+
+none : (b : Bool) (t : ℕ) → cond (b && false) (t ∷ []) [] ≡ []
+none true t = refl
+none false t = refl
+
+module _ (g : Given) (past : List Entry) where
+  o : Opening
+  o = g .opening
+
+  old : ℕ
+  old = lastTime g past
+
+  mode : Mode
+  mode = record { nfm = nfmNow g past; start = startNow past; intervals = intervalsNow g past }
+
+  -- counter k when the clock goes to t
+  left : ℕ → Counter → ℕ
+  left t k = leaked (o .opened) (rateOf o k) old (t - old) (counter g k past)
+
+  drained-one : (t : ℕ) → old ≤ t → (k : Counter) → counter g k past - (pointsTo (o .opened) (rateOf o k) t - pointsTo (o .opened) (rateOf o k) old) ≡ left t k
+  unfolding old left o
+  drained-one t h k =
+      let e : lastTime g past + (t - lastTime g past) ≡ t = omega arith in
+      ap (λ (x : ℕ). counter g k past - (pointsTo (o .opened) (rateOf o k) x - pointsTo (o .opened) (rateOf o k) old)) (sym e)
+      ∙ sym (one-by-one (o .opened) (rateOf o k) old (t - old) (counter g k past))
+
+  drained-all : (t : ℕ) → old ≤ t → moved t (tells g past .facts) .counters ≡ six (left t)
+  unfolding moved tells points left old o
+  drained-all t h = six-path (drained-one t h)
+
+  -- ---- An event at t that was answered a
+
+  module _ (t : ℕ) (a : Answer) (late : old ≤ t) where
+    ask-tells : (q : ℕ) → acted t (ask q) a (moved t (tells g past .facts)) ≡ tells g (entry (timed t (ask q)) a ∷ past) .facts
+    unfolding acted moved tells lastTime nfmNow startNow intervalsNow inARow failures backOffEnd standing mood counter left old o mode
+    ask-tells q =
+        facts-path o mode t (mood past) (ap (counted (a .number)) (drained-all t late) ∙ counted-six (a .number) (left t)) refl refl
+        (ap (λ (l : List ℕ). cond (eqb (a .number) 0) l (four (λ s. standing s past))) (asked-four q (λ s. standing s past))
+        ∙ four-cond (eqb (a .number) 0) (λ s. standsAsked s q (standing s past)) (λ s. standing s past))
+
+    granted-tells : (u : ℕ) → acted t (granted u) a (moved t (tells g past .facts)) ≡ tells g (entry (timed t (granted u)) a ∷ past) .facts
+    unfolding acted moved tells lastTime nfmNow startNow intervalsNow inARow failures backOffEnd standing mood counter left old o mode onGranted
+    granted-tells u =
+        facts-path o mode t (cond (eqb u 2) 0 (mood past)) (drained-all t late)
+        (failures-cleared u (λ s. inARow s past))
+        (set-four (λ s. 0) (λ s. backOffEnd g s past) (λ n. 0) u)
+        (set-four (λ s. 0) (λ s. standing s past) (λ n. cond (eqb u 2) 2 0) u)
+
+    -- silence and rejection, whose answer 20 carries the wait; d is service 2's mood
+    module _ (u : ℕ) (waited : eqb (a .number) 20 ≡ true → a .second ≡ wait (tells g past .facts) u) where
+      again : ℕ → Bool
+      again s = eqb (a .number) 20 && eqb u s
+
+      row : ℕ → ℕ
+      row s = cond (again s) (suc (inARow s past)) (inARow s past)
+
+      failed-tells : (d : ℕ) → withServices (moved t (tells g past .facts)) (onFailed t u a d (tells g past .facts .services))
+          ≡ factsOf o mode t (six (left t)) (four (λ s. min (row s) 255))
+          (four (λ s. cond (again s) (t + waitFor (o .imsi) (intervalsNow g past) (min (row s) 255)) (backOffEnd g s past)))
+          (four (λ s. cond (eqb u s) 0 (standing s past))) (cond (eqb u 2) d (mood past))
+      unfolding moved tells failures left old o mode onFailed wait again row
+      failed-tells d =
+          facts-path o mode t (cond (eqb u 2) d (mood past)) (drained-all t late)
+          (failures-more (eqb (a .number) 20) u (λ s. inARow s past))
+          (ends-more (eqb (a .number) 20) u (λ s. inARow s past) (λ s. backOffEnd g s past) (waitFor (o .imsi) (intervalsNow g past)) t (a .second) waited)
+          (set-four (λ s. 0) (λ s. standing s past) (λ n. 0) u)
+
+      silent-tells : acted t (silent u) a (moved t (tells g past .facts)) ≡ tells g (entry (timed t (silent u)) a ∷ past) .facts
+      unfolding acted moved tells lastTime nfmNow startNow intervalsNow inARow failures backOffEnd standing mood counter left old o mode again row
+      silent-tells = failed-tells 1
+
+      rejected-tells : (cause second : ℕ) → acted t (rejected u cause second) a (moved t (tells g past .facts))
+          ≡ tells g (entry (timed t (rejected u cause second)) a ∷ past) .facts
+      unfolding acted moved tells lastTime nfmNow startNow intervalsNow inARow failures backOffEnd standing mood counter left old o mode again row
+      rejected-tells cause second = failed-tells (moodOn cause)
+
+    dropped-tells : acted t dropped a (moved t (tells g past .facts)) ≡ tells g (entry (timed t dropped) a ∷ past) .facts
+    unfolding acted moved tells lastTime nfmNow startNow intervalsNow inARow failures backOffEnd standing mood counter left old o mode
+    dropped-tells = facts-path o mode t (mood past) (drained-all t late) refl refl (set-four (λ s. 0) (λ s. standing s past) (λ n. 0) 2)
+
+    tick-tells : acted t tick a (moved t (tells g past .facts)) ≡ tells g (entry (timed t tick) a ∷ past) .facts
+    unfolding acted moved tells lastTime nfmNow startNow intervalsNow inARow failures backOffEnd standing mood counter left old o mode
+    tick-tells = facts-path o mode t (mood past) (drained-all t late) refl refl refl
+
+  -- ---- An AT line that was answered a
+
+  -- no time passes, so nothing leaks
+  still : (k : Counter) → counter g k past ≡ left old k
+  unfolding left old leaked
+  still k = rw (sub-self (lastTime g past))
+
+  module _ (a : Answer) where
+    switched-tells : (b s : ℕ) → switched b s (tells g past .facts)
+        ≡ factsOf o (record { nfm = b; start = s; intervals = intervalsNow g past }) old (six (left old))
+        (four (λ s. min (cond (eqb b 0) 0 (inARow s past)) 255)) (four (λ s. cond (eqb b 0) 0 (backOffEnd g s past))) (four (λ s. standing s past)) (mood past)
+    unfolding switched tells failures old o
+    switched-tells b s = go (eqb b 0)
+      where
+        go : (x : Bool) → factsOf o (record { nfm = b; start = s; intervals = intervalsNow g past }) old (six (λ k. counter g k past))
+            (cond x idle (four (λ s. min (inARow s past) 255))) (cond x idle (four (λ s. backOffEnd g s past))) (four (λ s. standing s past)) (mood past)
+            ≡ factsOf o (record { nfm = b; start = s; intervals = intervalsNow g past }) old (six (left old))
+            (four (λ s. min (cond x 0 (inARow s past)) 255)) (four (λ s. cond x 0 (backOffEnd g s past))) (four (λ s. standing s past)) (mood past)
+        go true = facts-path o _ old (mood past) (six-path still) refl refl refl
+        go false = facts-path o _ old (mood past) (six-path still) refl refl refl
+
+    line-tells : (l : Line) → obeyed l (tells g past .facts) ≡ tells g (entry (typed l) a ∷ past) .facts
+    unfolding obeyed tells lastTime nfmNow startNow intervalsNow inARow failures backOffEnd standing mood counter left old o mode
+    line-tells (nfm b) = switched-tells b (startNow past)
+    line-tells (nfm-start b s) = switched-tells b s
+    line-tells (intervals l) = facts-path o (record { nfm = nfmNow g past; start = startNow past; intervals = l }) old (mood past) (six-path still) refl refl refl
+    line-tells query = facts-path o mode old (mood past) (six-path still) refl refl refl
+    line-tells bad = facts-path o mode old (mood past) (six-path still) refl refl refl
+
+  -- ---- The call's own answer
+
+  waited : (u : ℕ) (a : Answer) → (a .number ≡ 20 → a .second ≡ wait (tells g past .facts) u) → eqb (a .number) 20 ≡ true → a .second ≡ wait (tells g past .facts) u
+  waited u a h e = h (eqb-true (a .number) 20 e)
+
+  event-tells : (t : ℕ) (e : Event) → old ≤ t
+      → acted t e (ruled g past (timed t e)) (moved t (tells g past .facts)) ≡ tells g (entry (timed t e) (ruled g past (timed t e)) ∷ past) .facts
+  event-tells t (ask q) h = ask-tells t _ h q
+  event-tells t (granted u) h = granted-tells t _ h u
+  event-tells t (silent u) h = silent-tells t _ h u (waited u _ (silent-wait (tells g past) t u))
+  event-tells t (rejected u cause second) h = rejected-tells t _ h u (waited u _ (rejected-wait (tells g past) t u cause second)) cause second
+  event-tells t dropped h = dropped-tells t _ h
+  event-tells t tick h = tick-tells t _ h
+
+  late : (t : ℕ) (e : Event) → refusal (tells g past .facts) (timed t e) ≡ 0 → old ≤ t
+  unfolding tells old
+  late t e = on-time (tells g past .facts) t e
+
+  call-tells : (c : Call) → refused (ruled g past c) ≡ false → changed c (ruled g past c) (tells g past .facts) ≡ tells g (entry c (ruled g past c) ∷ past) .facts
+  unfolding changed
+  call-tells (timed t e) h = event-tells t e (late t e (accepted (tells g past) (timed t e) h))
+  call-tells (typed l) h = line-tells (ruled g past (typed l)) l
+
+  -- what a call adds to list k
+  added : (k : Kind) (c : Call) (a : Answer) → adds k c a ≡ permitIn k c (a .number)
+  unfolding adds onto
+  added k (timed t (ask q)) a = refl
+  added k (timed t (granted u)) a = none (eqb (a .number) 0) t
+  added k (timed t (silent u)) a = none (eqb (a .number) 0) t
+  added k (timed t (rejected u cause second)) a = none (eqb (a .number) 0) t
+  added k (timed t dropped) a = none (eqb (a .number) 0) t
+  added k (timed t tick) a = none (eqb (a .number) 0) t
+  added k (typed l) a = refl
+
+  -- one call: what was known and is learned from its answer is what the record tells that has the call
+  learned : (c : Call) → learn (tells g past) c (ruled g past c) ≡ tells g (entered c (ruled g past c) past)
+  unfolding learn tells permits
+  learned c = go (refused (ruled g past c)) refl
+    where
+      a : Answer
+      a = ruled g past c
+
+      go : (b : Bool) → refused a ≡ b
+          → record { facts = cond b (tells g past .facts) (changed c a (tells g past .facts)); lists = λ k. tells g past .lists k ++ adds k c a } ≡ tells g (cond b past (entry c a ∷ past))
+      go true e = λ i. record { facts = tells g past .facts; lists = λ k. (ap (λ (l : List ℕ). permits k past ++ l) (refused-adds k c a e) ∙ append-nil (permits k past)) i }
+      go false e = λ i. record { facts = call-tells c e i; lists = λ k. permits k past ++ added k c a i }
+
+-- ---- The theorem: after any calls
+
+fresh-tells : (g : Given) → fresh g ≡ tells g []
+unfolding fresh tells lastTime nfmNow startNow intervalsNow permits inARow failures backOffEnd standing mood counter
+fresh-tells g = refl
+
+onward-tells : (g : Given) (past : List Entry) (cs : List Call) → known (tells g past) cs ≡ tells g (onward g past cs)
+onward-tells g past [] = refl
+onward-tells g past (c ∷ cs) = ap (λ (w : State). known w cs) (learned g past c) ∙ onward-tells g (entered c (ruled g past c) past) cs
+
+pub known-tells : (g : Given) (cs : List Call) → known (fresh g) cs ≡ tells g (told g cs)
+known-tells g cs = rw (fresh-tells g) (onward-tells g [] cs)
+
+onward-answers : (g : Given) (past : List Entry) (cs : List Call) → answers (tells g past) cs ≡ ruledAll g past cs
+onward-answers g past [] = refl
+onward-answers g past (c ∷ cs) =
+    ap (λ (l : List Answer). ruled g past c ∷ l)
+    (ap (λ (w : State). answers w cs) (learned g past c) ∙ onward-answers g (entered c (ruled g past c) past) cs)
+
+pub answers-told : (g : Given) (cs : List Call) → answers (fresh g) cs ≡ ruledAll g [] cs
+answers-told g cs = rw (fresh-tells g) (onward-answers g [] cs)
+
+-- thing by thing
+pub as-told : (g : Given) (cs : List Call) → AsTold g cs
+unfolding tells
+as-told g cs =
+    let e = known-tells g cs in
+    record {
+      last = rw e;
+      nfm = rw e;
+      start-timer = rw e;
+      base-intervals = rw e;
+      permit-times = λ k. rw e;
+      failures-in-a-row = λ s h. rw e (of-four (λ u. failures u (told g cs)) s h);
+      ends = λ s h. rw e (of-four (λ u. backOffEnd g u (told g cs)) s h);
+      standings = λ s h. rw e (of-four (λ u. standing u (told g cs)) s h);
+      pdp-mood = rw e;
+      counters = λ k. rw e (of-six (λ j. counter g j (told g cs)) k);
+    }

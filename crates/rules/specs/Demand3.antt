@@ -1,0 +1,61 @@
+-- The customer's third demand, over the record. Assumes nothing.
+use Prim.Native.Nat.{ℕ, _≤_, _<_}
+use mathlib.Core.Path.{_≡_}
+use mathlib.Core.Bool.{true, false}
+use mathlib.Core.List.{List, [], _∷_, _++_}
+use mathlib.Core.Logic.{_⊎_, _≢_}
+use Rattle.rules.specs.declared.Answer.{Answer}
+use Rattle.rules.specs.Calls.{Opening, Given, ask, Call, timed, Entry}
+use Rattle.rules.specs.Tables.{inHour}
+use Rattle.rules.specs.Record.{permits, backOffEnd}
+use Rattle.rules.specs.Rules.{Limit, limits, refused}
+use Rattle.rules.specs.Told.{tells, ruled, told}
+
+-- of every limit of a table, and of some limit of it
+abbrev pub Each : (Limit → Type 0) → List Limit → Type 0
+Each P [] = Unit {0}
+Each P (r ∷ rs) = P r × Each P rs
+
+abbrev pub Some : (Limit → Type 0) → List Limit → Type 0
+Some P [] = ⊥
+Some P (r ∷ rs) = P r ⊎ Some P rs
+
+-- the limits on request q, as the record has them
+abbrev pub limitsOn : Given → List Entry → ℕ → List Limit
+limitsOn g past q = limits (tells g past .facts) q
+
+-- limit r is broken by a permit at t after the record `past`: it applies, it is above 0, and with the permit more than it are in the hour
+pub record Broken (past : List Entry) (t : ℕ) (r : Limit) : Type 0 where
+  pub applies : r .applies ≡ true
+  pub above : 0 < r .most
+  pub over : r .most < inHour t (permits (r .kind) past ++ (t ∷ []))
+
+-- a rule that the permit of request q at t would break, and the number that stands for it
+pub data Breaks (g : Given) (past : List Entry) (t q : ℕ) : ℕ → Type 0 where
+  back-off : q ≤ 3 → t < backOffEnd g q past → Breaks g past t q 10
+  limit : (n : ℕ) → Some (λ r. (r .number ≡ n) × Broken past t r) (limitsOn g past q) → Breaks g past t q n
+
+-- `next` is how the call after the calls `before` is answered
+pub record Demand3 (g : Given) (before : List Call) (next : Call → Answer) : Type 0 where
+  -- "answers the next request exactly as the rules do over the full record since its last opening, however long"
+  pub as-the-record : (c : Call) → next c ≡ ruled g (told g before) c
+  -- "no request is permitted in its service's running back-off"
+  pub no-permit-in-back-off : (t q : ℕ) → next (timed t (ask q)) .number ≡ 0 → q ≤ 3 → backOffEnd g q (told g before) ≤ t
+  -- "resets are not held by one"
+  pub resets-not-held : (t : ℕ) → next (timed t (ask 5)) .number ≢ 10
+  -- "each permit has at most L on its list in the 3,600 seconds that end with it"
+  pub at-most : (t q : ℕ) → next (timed t (ask q)) .number ≡ 0
+      → Each (λ r. r .applies ≡ true → 0 < r .most → inHour t (permits (r .kind) (told g (before ++ (timed t (ask q) ∷ [])))) ≤ r .most) (limitsOn g (told g before) q)
+  -- "a request that passes the checks is blocked only by a rule that its permit would break"
+  pub blocked-by-a-rule : (t q : ℕ) → refused (next (timed t (ask q))) ≡ false → next (timed t (ask q)) .number ≢ 0
+      → Breaks g (told g before) t q (next (timed t (ask q)) .number)
+
+-- the limits are bytes, as the buffer and the card's files have them
+pub record Bytes (o : Opening) : Type 0 where
+  pub N1 : o .N1 ≤ 255
+  pub F1 : o .F1 ≤ 255
+  pub F2 : o .F2 ≤ 255
+  pub F3 : o .F3 ≤ 255
+  pub F4 : o .F4 ≤ 255
+  pub A1 : o .A1 ≤ 255
+  pub S1 : o .S1 ≤ 255

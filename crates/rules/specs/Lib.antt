@@ -1,0 +1,6 @@
+pub mod Calls
+pub mod Tables
+pub mod Record
+pub mod Rules
+pub mod Told
+pub mod Demand3

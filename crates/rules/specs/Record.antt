@@ -1,0 +1,182 @@
+-- What the record tells. The record is the list of the accepted calls since the opening, each with its answer, the newest first; each
+-- thing that it tells is read straight off it, by itself. Assumes nothing.
+use Prim.Native.Nat.{ℕ, zero, suc, _+_, _-_, _*_, _%_, min}
+use mathlib.Core.Bool.{Bool, false, cond, _&&_}
+use mathlib.Core.List.{List, [], _∷_, _++_}
+use lib.Dec.{ltb, leb, eqb}
+use Rattle.rules.specs.Calls.{Given, Counter, Event, ask, granted, silent, rejected, dropped, tick, nfm, nfm-start, intervals, query, bad, Call, timed, typed, Entry}
+use Rattle.rules.specs.Tables.{Kind, goes, moodOn, oneMore, waitFor, rateOf, raises, ofSix}
+
+-- ---- The last time: that of the newest timed call, and before any the opening time
+
+-- the time of a timed call; an AT line leaves the time as it was
+abbrev pub timeOf : Call → ℕ → ℕ
+timeOf (timed t e) before = t
+timeOf (typed l) before = before
+
+unfoldable pub lastTime : Given → List Entry → ℕ
+lastTime g [] = g .opening .opened
+lastTime g (x ∷ past) = timeOf (x .call) (lastTime g past)
+
+-- ---- NFM, Start Timer and intervals: as the newest AT line that names them has them, and before any as the opening has them
+
+abbrev pub nfmAfter : Call → ℕ → ℕ
+nfmAfter (timed t e) before = before
+nfmAfter (typed (nfm a)) before = a
+nfmAfter (typed (nfm-start a s)) before = a
+nfmAfter (typed (intervals l)) before = before
+nfmAfter (typed query) before = before
+nfmAfter (typed bad) before = before
+
+unfoldable pub nfmNow : Given → List Entry → ℕ
+nfmNow g [] = g .nfm
+nfmNow g (x ∷ past) = nfmAfter (x .call) (nfmNow g past)
+
+-- without s, Start Timer stays
+abbrev pub startAfter : Call → ℕ → ℕ
+startAfter (timed t e) before = before
+startAfter (typed (nfm a)) before = before
+startAfter (typed (nfm-start a s)) before = s
+startAfter (typed (intervals l)) before = before
+startAfter (typed query) before = before
+startAfter (typed bad) before = before
+
+unfoldable pub startNow : List Entry → ℕ
+startNow [] = 0
+startNow (x ∷ past) = startAfter (x .call) (startNow past)
+
+abbrev pub intervalsAfter : Call → List ℕ → List ℕ
+intervalsAfter (timed t e) before = before
+intervalsAfter (typed (nfm a)) before = before
+intervalsAfter (typed (nfm-start a s)) before = before
+intervalsAfter (typed (intervals l)) before = l
+intervalsAfter (typed query) before = before
+intervalsAfter (typed bad) before = before
+
+unfoldable pub intervalsNow : Given → List Entry → List ℕ
+intervalsNow g [] = g .intervals
+intervalsNow g (x ∷ past) = intervalsAfter (x .call) (intervalsNow g past)
+
+-- ---- The permits of list k, oldest first: the times of the requests that go there and were answered 0
+
+abbrev pub permitIn : Kind → Call → ℕ → List ℕ
+permitIn k (timed t (ask q)) n = cond (eqb n 0 && goes q k) (t ∷ []) []
+permitIn k (timed t (granted s)) n = []
+permitIn k (timed t (silent s)) n = []
+permitIn k (timed t (rejected s cause second)) n = []
+permitIn k (timed t dropped) n = []
+permitIn k (timed t tick) n = []
+permitIn k (typed l) n = []
+
+unfoldable pub permits : Kind → List Entry → List ℕ
+permits k [] = []
+permits k (x ∷ past) = permits k past ++ permitIn k (x .call) (x .answer .number)
+
+-- ---- Failures in a row and back-off end of service s
+
+-- a grant of the service, and AT+NFM=0, set both to 0
+abbrev pub clears : ℕ → Call → Bool
+clears s (timed t (ask q)) = false
+clears s (timed t (granted u)) = eqb u s
+clears s (timed t (silent u)) = false
+clears s (timed t (rejected u cause second)) = false
+clears s (timed t dropped) = false
+clears s (timed t tick) = false
+clears s (typed (nfm a)) = eqb a 0
+clears s (typed (nfm-start a b)) = eqb a 0
+clears s (typed (intervals l)) = false
+clears s (typed query) = false
+clears s (typed bad) = false
+
+-- silence or a rejection of the service that was answered 20: it backs off
+abbrev pub backsOff : ℕ → Call → ℕ → Bool
+backsOff s (timed t (ask q)) n = false
+backsOff s (timed t (granted u)) n = false
+backsOff s (timed t (silent u)) n = eqb n 20 && eqb u s
+backsOff s (timed t (rejected u cause second)) n = eqb n 20 && eqb u s
+backsOff s (timed t dropped) n = false
+backsOff s (timed t tick) n = false
+backsOff s (typed l) n = false
+
+-- how often it has backed off since it was last cleared
+unfoldable pub inARow : ℕ → List Entry → ℕ
+inARow s [] = 0
+inARow s (x ∷ past) = cond (clears s (x .call)) 0 (cond (backsOff s (x .call) (x .answer .number)) (suc (inARow s past)) (inARow s past))
+
+-- to 255 at most
+unfoldable pub failures : ℕ → List Entry → ℕ
+failures s past = min (inARow s past) 255
+
+-- the time of its newest back-off plus the wait at so many failures; 0 once it is cleared, and before any
+unfoldable pub backOffEnd : Given → ℕ → List Entry → ℕ
+backOffEnd g s [] = 0
+backOffEnd g s (x ∷ past) =
+    cond (clears s (x .call)) 0
+    (cond (backsOff s (x .call) (x .answer .number))
+    (timeOf (x .call) 0 + waitFor (g .opening .imsi) (intervalsNow g past) (failures s (x ∷ past)))
+    (backOffEnd g s past))
+
+-- ---- The standing of service s: 0 idle, 1 asked, 2 up
+
+-- a permit makes its service asked; of request 4, service 2 idle; of request 5, all idle
+abbrev pub standsAsked : ℕ → ℕ → ℕ → ℕ
+standsAsked s q before = cond (leb q 3) (cond (eqb q s) 1 before) (cond (eqb q 4) (cond (eqb 2 s) 0 before) 0)
+
+abbrev pub standsAfter : ℕ → Call → ℕ → ℕ → ℕ
+standsAfter s (timed t (ask q)) n before = cond (eqb n 0) (standsAsked s q before) before
+standsAfter s (timed t (granted u)) n before = cond (eqb u s) (cond (eqb u 2) 2 0) before
+standsAfter s (timed t (silent u)) n before = cond (eqb u s) 0 before
+standsAfter s (timed t (rejected u cause second)) n before = cond (eqb u s) 0 before
+standsAfter s (timed t dropped) n before = cond (eqb 2 s) 0 before
+standsAfter s (timed t tick) n before = before
+standsAfter s (typed l) n before = before
+
+unfoldable pub standing : ℕ → List Entry → ℕ
+standing s [] = 0
+standing s (x ∷ past) = standsAfter s (x .call) (x .answer .number) (standing s past)
+
+-- ---- The PDP mood: 0 clear, 1 ignored, 2 permanent, 3 temporary
+
+abbrev pub moodAfter : Call → ℕ → ℕ
+moodAfter (timed t (ask q)) before = before
+moodAfter (timed t (granted s)) before = cond (eqb s 2) 0 before
+moodAfter (timed t (silent s)) before = cond (eqb s 2) 1 before
+moodAfter (timed t (rejected s cause second)) before = cond (eqb s 2) (moodOn cause) before
+moodAfter (timed t dropped) before = before
+moodAfter (timed t tick) before = before
+moodAfter (typed l) before = before
+
+unfoldable pub mood : List Entry → ℕ
+mood [] = 0
+mood (x ∷ past) = moodAfter (x .call) (mood past)
+
+-- ---- The card's counters
+
+-- p is a leak point: the opening time plus a positive multiple of rate x 3,600 s; a rate of zero has none
+unfoldable pub leakPoint : ℕ → ℕ → ℕ → Bool
+leakPoint opened rate p = ltb 0 rate && (ltb opened p && eqb ((p - opened) % (rate * 3600)) 0)
+
+-- what is left of a counter n seconds after the old time: each leak point on the way takes one, never below 0
+unfoldable pub leaked : (opened rate old n counter : ℕ) → ℕ
+leaked opened rate old zero counter = counter
+leaked opened rate old (suc n) counter =
+    let left = leaked opened rate old n counter in
+    cond (leakPoint opened rate (old + suc n)) (left - 1) left
+
+-- a request that was blocked by the limit of counter k
+abbrev pub blocksOn : Counter → Call → ℕ → Bool
+blocksOn k (timed t (ask q)) n = raises k n
+blocksOn k (timed t (granted s)) n = false
+blocksOn k (timed t (silent s)) n = false
+blocksOn k (timed t (rejected s cause second)) n = false
+blocksOn k (timed t dropped) n = false
+blocksOn k (timed t tick) n = false
+blocksOn k (typed l) n = false
+
+-- counter k: the card's at opening; a call leaks from the old time to its own, and then its own block adds one, to 255 at most
+unfoldable pub counter : Given → Counter → List Entry → ℕ
+counter g k [] = ofSix (g .counters) k
+counter g k (x ∷ past) =
+    let old = lastTime g past in
+    let left = leaked (g .opening .opened) (rateOf (g .opening) k) old (timeOf (x .call) old - old) (counter g k past) in
+    cond (blocksOn k (x .call) (x .answer .number)) (oneMore left) left

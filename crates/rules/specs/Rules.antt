@@ -1,0 +1,328 @@
+-- The rules: what the gate knows, how it answers a call by that, and what it knows after the answer. Assumes nothing.
+use Prim.Native.Nat.{ℕ, _+_, _-_, _*_, _/_}
+use mathlib.Core.Bool.{Bool, true, false, cond, _&&_, _||_}
+use mathlib.Core.List.{List, [], _∷_, _++_}
+use lib.ListN.{length, getD, set, drop}
+use lib.Dec.{ltb, leb, eqb}
+use Rattle.rules.specs.declared.Answer.{Answer}
+use Rattle.rules.specs.Calls.{Opening, Given, Event, ask, granted, silent, rejected, dropped, tick, Line, nfm, nfm-start, intervals, query, bad, Call, timed, typed, answer}
+use Rattle.rules.specs.Tables.{highestTime, inHour, Kind, attach, activation, pdp, sms, reset, goes, action, moodOn, oneMore, waitFor, scheduled, six, ofSix}
+
+-- ---- What is known
+
+-- settled by AT lines
+pub record Mode : Type 0 where
+  pub nfm : ℕ
+  pub start : ℕ
+  pub intervals : List ℕ
+
+-- the four services: failures in a row, back-off ends, standing (0 idle, 1 asked, 2 up); the mood of service 2
+pub record Services : Type 0 where
+  pub failures : List ℕ
+  pub ends : List ℕ
+  pub standing : List ℕ
+  pub mood : ℕ
+
+pub record Facts : Type 0 where
+  pub opening : Opening
+  pub mode : Mode
+  pub last : ℕ
+  pub counters : List ℕ
+  pub services : Services
+
+-- with the permit times of each list, oldest first, however many
+pub record State : Type 0 where
+  pub facts : Facts
+  pub lists : Kind → List ℕ
+
+-- ---- The limits
+
+pub record Limit : Type 0 where
+  pub number : ℕ
+  pub applies : Bool
+  pub most : ℕ
+  pub kind : Kind
+
+abbrev pub limit : ℕ → Bool → ℕ → Kind → Limit
+limit n b m k = record { number = n; applies = b; most = m; kind = k }
+
+-- the limits on request q, in the order in which they are looked at
+unfoldable pub limits : Facts → ℕ → List Limit
+limits f q =
+    let o = f .opening in
+    let on = eqb (o .rpm) 1 in
+    let mood = f .services .mood in
+    limit 11 (on && eqb q 5) (o .N1) reset
+    ∷ limit 13 (on && (eqb q 2 && eqb mood 1)) (o .F1) activation
+    ∷ limit 14 (on && (eqb q 2 && eqb mood 2)) (o .F2) activation
+    ∷ limit 15 (on && (eqb q 2 && eqb mood 3)) (o .F3) activation
+    ∷ limit 16 (on && (eqb q 2 || eqb q 4)) (o .F4) pdp
+    ∷ limit 17 (eqb q 0 || eqb q 1) (o .A1) attach
+    ∷ limit 18 (eqb q 3) (o .S1) sms
+    ∷ []
+
+-- a limit L blocks when it applies, is not zero, and L or more are in the hour already
+unfoldable pub blocks : State → ℕ → Limit → Bool
+blocks w t r = r .applies && (ltb 0 (r .most) && leb (r .most) (inHour t (w .lists (r .kind))))
+
+-- the number of the first limit that blocks, and 0 if none does
+abbrev pub firstBlock : State → ℕ → List Limit → ℕ
+firstBlock w t [] = 0
+firstBlock w t (r ∷ rs) = cond (blocks w t r) (r .number) (firstBlock w t rs)
+
+-- ---- Checks 2 to 5, in their order
+
+-- the first check that fails, and 0 if none does
+abbrev pub check : Bool → ℕ → ℕ → ℕ
+check ok n rest = cond ok rest n
+
+-- 2: request, service, cause and flag in range
+unfoldable pub inRange : Event → Bool
+inRange (ask q) = leb q 5
+inRange (granted s) = leb s 3
+inRange (silent s) = leb s 3
+inRange (rejected s cause second) = leb s 3 && (leb cause 255 && leb second 1)
+inRange dropped = true
+inRange tick = true
+
+-- 3: not below the last time, nor above the highest
+abbrev pub timely : Facts → ℕ → Bool
+timely f t = leb (f .last) t && leb t highestTime
+
+-- 4: the standing that the event needs
+abbrev pub standing : Facts → ℕ → ℕ
+standing f s = getD (f .services .standing) s 0
+
+unfoldable pub stands : Facts → Event → Bool
+stands f (ask q) = cond (leb q 3) (eqb (standing f q) 0) (cond (eqb q 4) (eqb (standing f 2) 2) true)
+stands f (granted s) = eqb (standing f s) 1
+stands f (silent s) = eqb (standing f s) 1
+stands f (rejected s cause second) = eqb (standing f s) 1
+stands f dropped = eqb (standing f 2) 2
+stands f tick = true
+
+unfoldable pub refusal : Facts → Call → ℕ
+refusal f (timed t e) = check (inRange e) 2 (check (timely f t) 3 (check (stands f e) 4 0))
+refusal f (typed (nfm a)) = check (leb a 1) 5 0
+refusal f (typed (nfm-start a s)) = check (leb a 1 && leb s 1) 5 0
+refusal f (typed (intervals l)) = check (scheduled l) 5 0
+refusal f (typed query) = 0
+refusal f (typed bad) = 5
+
+-- ---- The answer
+
+-- the back-off of a service runs while t < end
+unfoldable pub runs : Facts → ℕ → ℕ → Bool
+runs f t q = leb q 3 && ltb t (getD (f .services .ends) q 0)
+
+-- the wait of service s with one more failure
+unfoldable pub wait : Facts → ℕ → ℕ
+wait f s = waitFor (f .opening .imsi) (f .mode .intervals) (oneMore (getD (f .services .failures) s 0))
+
+-- the answer to an outcome of service s whose action is n; with NFM 0, 23 in place of 20
+unfoldable pub failed : Facts → ℕ → ℕ → Answer
+failed f s n = cond (eqb n 20) (cond (eqb (f .mode .nfm) 1) (answer 20 (wait f s)) (answer 23 0)) (answer n 0)
+
+-- the answer to a call that no check refuses; to an AT line the bytes of OK CR LF, and for the read those of +NFM: a,s CR LF besides
+unfoldable pub verdict : State → Call → Answer
+verdict w (timed t (ask q)) =
+    cond (runs (w .facts) t q)
+    (answer 10 (getD (w .facts .services .ends) q 0 - t))
+    (answer (firstBlock w t (limits (w .facts) q)) 0)
+verdict w (timed t (granted s)) = answer 0 0
+verdict w (timed t (silent s)) = failed (w .facts) s 20
+verdict w (timed t (rejected s cause second)) = failed (w .facts) s (action s cause second)
+verdict w (timed t dropped) = answer 0 0
+verdict w (timed t tick) = answer 0 0
+verdict w (typed (nfm a)) = answer 0 4
+verdict w (typed (nfm-start a s)) = answer 0 4
+verdict w (typed (intervals l)) = answer 0 4
+verdict w (typed query) = answer 0 15
+verdict w (typed bad) = answer 5 0
+
+unfoldable pub ruling : State → Call → Answer
+ruling w c = cond (eqb (refusal (w .facts) c) 0) (verdict w c) (answer (refusal (w .facts) c) 0)
+
+-- numbers 1 to 5
+abbrev pub refused : Answer → Bool
+refused a = leb 1 (a .number) && leb (a .number) 5
+
+-- ---- What an answered call changes
+
+-- leak points from the opening up to time x; a division by 0, for a rate of 0, gives 0
+unfoldable pub points : Facts → ℕ → ℕ → ℕ
+points f rate x = (x - f .opening .opened) / (rate * 3600)
+
+-- counter i when the clock goes to t
+abbrev pub drained : Facts → ℕ → ℕ → ℕ → ℕ
+drained f t rate i = getD (f .counters) i 0 - (points f rate t - points f rate (f .last))
+
+-- the clock goes to t
+unfoldable pub moved : ℕ → Facts → Facts
+moved t f =
+    let o = f .opening in
+    record {
+      opening = o;
+      mode = f .mode;
+      last = t;
+      counters =
+          drained f t (o .LR1) 0
+          ∷ drained f t (o .LR2) 1
+          ∷ drained f t (o .LR3) 2
+          ∷ drained f t (o .LR3) 3
+          ∷ drained f t (o .LR3) 4
+          ∷ drained f t (o .LR3) 5
+          ∷ [];
+      services = f .services;
+    }
+
+-- a block by N1 or F1-F4 raises its counter
+abbrev pub raised : ℕ → List ℕ → List ℕ
+raised i l = set l i (oneMore (getD l i 0))
+
+unfoldable pub counted : ℕ → List ℕ → List ℕ
+counted n l = cond (eqb n 11) (raised 0 l) (cond (leb 13 n && leb n 16) (raised (n - 11) l) l)
+
+abbrev pub idle : List ℕ
+idle = 0 ∷ 0 ∷ 0 ∷ 0 ∷ []
+
+-- the standing after a permit of request q
+unfoldable pub asked : ℕ → List ℕ → List ℕ
+asked q l = cond (leb q 3) (set l q 1) (cond (eqb q 4) (set l 2 0) idle)
+
+-- the services after service s was granted
+unfoldable pub onGranted : ℕ → Services → Services
+onGranted s v = record {
+  failures = set (v .failures) s 0;
+  ends = set (v .ends) s 0;
+  standing = set (v .standing) s (cond (eqb s 2) 2 0);
+  mood = cond (eqb s 2) 0 (v .mood);
+}
+
+-- after a rejection or silence at t that was answered a; d is service 2's mood
+unfoldable pub onFailed : ℕ → ℕ → Answer → ℕ → Services → Services
+onFailed t s a d v = record {
+  failures = cond (eqb (a .number) 20) (set (v .failures) s (oneMore (getD (v .failures) s 0))) (v .failures);
+  ends = cond (eqb (a .number) 20) (set (v .ends) s (t + a .second)) (v .ends);
+  standing = set (v .standing) s 0;
+  mood = cond (eqb s 2) d (v .mood);
+}
+
+abbrev pub withStanding : Services → List ℕ → Services
+withStanding v l = record { failures = v .failures; ends = v .ends; standing = l; mood = v .mood }
+
+abbrev pub withServices : Facts → Services → Facts
+withServices f v = record { opening = f .opening; mode = f .mode; last = f .last; counters = f .counters; services = v }
+
+-- what event e at t, answered a, does beyond the clock
+unfoldable pub acted : ℕ → Event → Answer → Facts → Facts
+acted t (ask q) a f = record {
+  opening = f .opening;
+  mode = f .mode;
+  last = f .last;
+  counters = counted (a .number) (f .counters);
+  services = withStanding (f .services) (cond (eqb (a .number) 0) (asked q (f .services .standing)) (f .services .standing));
+}
+acted t (granted s) a f = withServices f (onGranted s (f .services))
+acted t (silent s) a f = withServices f (onFailed t s a 1 (f .services))
+acted t (rejected s cause second) a f = withServices f (onFailed t s a (moodOn cause) (f .services))
+acted t dropped a f = withServices f (withStanding (f .services) (set (f .services .standing) 2 0))
+acted t tick a f = f
+
+-- AT+NFM=a,s: with a = 0 failures and ends become 0
+unfoldable pub switched : ℕ → ℕ → Facts → Facts
+switched a s f = record {
+  opening = f .opening;
+  mode = record { nfm = a; start = s; intervals = f .mode .intervals };
+  last = f .last;
+  counters = f .counters;
+  services = record {
+    failures = cond (eqb a 0) idle (f .services .failures);
+    ends = cond (eqb a 0) idle (f .services .ends);
+    standing = f .services .standing;
+    mood = f .services .mood;
+  };
+}
+
+-- what an AT line does
+unfoldable pub obeyed : Line → Facts → Facts
+obeyed (nfm a) f = switched a (f .mode .start) f
+obeyed (nfm-start a s) f = switched a s f
+obeyed (intervals l) f = record {
+  opening = f .opening;
+  mode = record { nfm = f .mode .nfm; start = f .mode .start; intervals = l };
+  last = f .last;
+  counters = f .counters;
+  services = f .services;
+}
+obeyed query f = f
+obeyed bad f = f
+
+unfoldable pub changed : Call → Answer → Facts → Facts
+changed (timed t e) a f = acted t e a (moved t f)
+changed (typed l) a f = obeyed l f
+
+-- the request of an event is added to list k when it is permitted
+unfoldable pub onto : Event → Kind → Bool
+onto (ask q) k = goes q k
+onto (granted s) k = false
+onto (silent s) k = false
+onto (rejected s cause second) k = false
+onto dropped k = false
+onto tick k = false
+
+-- the times that an answered call adds to list k
+unfoldable pub adds : Kind → Call → Answer → List ℕ
+adds k (timed t e) a = cond (eqb (a .number) 0 && onto e k) (t ∷ []) []
+adds k (typed l) a = []
+
+-- what is known after call c was answered a; a refused call changes nothing
+unfoldable pub learn : State → Call → Answer → State
+learn w c a = record {
+  facts = cond (refused a) (w .facts) (changed c a (w .facts));
+  lists = λ k. w .lists k ++ adds k c a;
+}
+
+-- ---- From the opening on
+
+-- a new buffer is idle and clear, its last time the opening time, failures and ends 0, lists empty; Start Timer is 0
+unfoldable pub fresh : Given → State
+fresh g = record {
+  facts = record {
+    opening = g .opening;
+    mode = record { nfm = g .nfm; start = 0; intervals = g .intervals };
+    last = g .opening .opened;
+    counters = six (ofSix (g .counters));
+    services = record { failures = idle; ends = idle; standing = idle; mood = 0 };
+  };
+  lists = λ k. [];
+}
+
+-- what is known after the calls cs, each answered by the rules, and their answers
+abbrev pub known : State → List Call → State
+known w [] = w
+known w (c ∷ cs) = known (learn w c (ruling w c)) cs
+
+abbrev pub answers : State → List Call → List Answer
+answers w [] = []
+answers w (c ∷ cs) = ruling w c ∷ answers (learn w c (ruling w c)) cs
+
+-- ---- What a buffer holds of it: the newest 255 of each list
+
+unfoldable pub newest : List ℕ → List ℕ
+newest l = drop (length l - 255) l
+
+unfoldable pub short : State → State
+short w = record { facts = w .facts; lists = λ k. newest (w .lists k) }
+
+-- what a buffer does
+unfoldable pub step : State → Call → State
+step v c = short (learn v c (ruling v c))
+
+abbrev pub held : State → List Call → State
+held v [] = v
+held v (c ∷ cs) = held (step v c) cs
+
+abbrev pub heldAnswers : State → List Call → List Answer
+heldAnswers v [] = []
+heldAnswers v (c ∷ cs) = ruling v c ∷ heldAnswers (step v c) cs

@@ -1,0 +1,108 @@
+-- Document 01's tables and formulas that hang on nothing but their arguments. Assumes nothing.
+use Prim.Native.Nat.{ℕ, suc, _+_, _-_, _*_, _%_, min}
+use mathlib.Core.Bool.{Bool, true, false, cond, not, _&&_, _||_}
+use mathlib.Core.List.{List, [], _∷_}
+use lib.ListN.{length, getD}
+use lib.Dec.{ltb, leb, eqb}
+use Rattle.rules.specs.Calls.{Opening, Counter, C-BR-1, C-R-1, C-PDP-1, C-PDP-2, C-PDP-3, C-PDP-4}
+
+abbrev pub highestTime : ℕ
+highestTime = 4000000000
+
+-- ---- The hour, and the five lists of permit times
+
+-- "in the hour of t": a permit time p with p <= t and p + 3,600 > t
+unfoldable pub within : ℕ → ℕ → Bool
+within t p = leb p t && ltb t (p + 3600)
+
+abbrev pub inHour : ℕ → List ℕ → ℕ
+inHour t [] = 0
+inHour t (p ∷ l) = cond (within t p) (suc (inHour t l)) (inHour t l)
+
+pub data Kind : Type 0 where
+  attach activation pdp sms reset : Kind
+
+-- the lists that a permit of request q is added to
+abbrev pub goes : ℕ → Kind → Bool
+goes q attach = eqb q 0 || eqb q 1
+goes q activation = eqb q 2
+goes q pdp = eqb q 2 || eqb q 4
+goes q sms = eqb q 3
+goes q reset = eqb q 5
+
+-- ---- Causes
+
+abbrev pub among : ℕ → List ℕ → Bool
+among c [] = false
+among c (x ∷ l) = eqb c x || among c l
+
+-- what to do on a cause of service s: 20 back off, 21 re-attach, 22 other network, 23 as 3GPP says
+unfoldable pub action : ℕ → ℕ → ℕ → ℕ
+action s cause second =
+    cond (not (eqb s 2)) 20
+    (cond (among cause (8 ∷ 26 ∷ 27 ∷ 29 ∷ 30 ∷ 31 ∷ 32 ∷ 33 ∷ 35 ∷ [])) 20
+    (cond (eqb cause 28) 21
+    (cond (eqb cause 34) (cond (eqb second 1) 22 20) 23)))
+
+-- the mood of service 2 after a rejection: 2 permanent, 3 temporary
+unfoldable pub moodOn : ℕ → ℕ
+moodOn cause = cond (among cause (8 ∷ 27 ∷ 28 ∷ 29 ∷ 32 ∷ 33 ∷ [])) 2 3
+
+-- ---- Back-off
+
+-- one more, to 255 at most
+abbrev pub oneMore : ℕ → ℕ
+oneMore n = min (n + 1) 255
+
+-- with n failures: interval n, or the last when there are fewer
+abbrev pub interval : List ℕ → ℕ → ℕ
+interval l n = getD l (min n (length l) - 1) 0
+
+-- B plus the IMSI's remainder by B
+unfoldable pub waitFor : ℕ → List ℕ → ℕ → ℕ
+waitFor imsi l n = interval l n + imsi % interval l n
+
+-- none is below the one before it, the first not below lo, and none is above hi
+unfoldable pub ascending : ℕ → ℕ → List ℕ → Bool
+ascending lo hi [] = true
+ascending lo hi (x ∷ xs) = leb lo x && (leb x hi && ascending x hi xs)
+
+-- base intervals: 1 to 10 of them, 1 to 65,535 s, none below the one before
+abbrev pub scheduled : List ℕ → Bool
+scheduled l = (leb 1 (length l) && leb (length l) 10) && ascending 1 65535 l
+
+-- ---- Counters
+
+-- LR-1 serves C-BR-1, LR-2 C-R-1, LR-3 the four C-PDP
+abbrev pub rateOf : Opening → Counter → ℕ
+rateOf o C-BR-1 = o .LR1
+rateOf o C-R-1 = o .LR2
+rateOf o C-PDP-1 = o .LR3
+rateOf o C-PDP-2 = o .LR3
+rateOf o C-PDP-3 = o .LR3
+rateOf o C-PDP-4 = o .LR3
+
+-- a block by N1 or F1-F4, answered n, adds to its own counter; C-R-1 has none
+abbrev pub raises : Counter → ℕ → Bool
+raises C-BR-1 n = eqb n 11
+raises C-R-1 n = false
+raises C-PDP-1 n = eqb n 13
+raises C-PDP-2 n = eqb n 14
+raises C-PDP-3 n = eqb n 15
+raises C-PDP-4 n = eqb n 16
+
+-- a list of four by service, a list of six by counter
+abbrev pub four : (ℕ → ℕ) → List ℕ
+four f = f 0 ∷ f 1 ∷ f 2 ∷ f 3 ∷ []
+
+abbrev pub six : (Counter → ℕ) → List ℕ
+six f = f C-BR-1 ∷ f C-R-1 ∷ f C-PDP-1 ∷ f C-PDP-2 ∷ f C-PDP-3 ∷ f C-PDP-4 ∷ []
+
+-- a counter in a list of six
+abbrev pub ofSix : List ℕ → Counter → ℕ
+ofSix l C-BR-1 = getD l 0 0
+ofSix l C-R-1 = getD l 1 0
+ofSix l C-PDP-1 = getD l 2 0
+ofSix l C-PDP-2 = getD l 3 0
+ofSix l C-PDP-3 = getD l 4 0
+ofSix l C-PDP-4 = getD l 5 0
