@@ -8,7 +8,7 @@ use borrow.Author.Tests.{leb-true, le-leb, eqb-false, eqb-true, ne-eqb}
 use native.Mathlib.Omega.{arith}
 use Rattle.rules.specs.declared.Answer.{Answer}
 use Rattle.rules.specs.Calls.{Event, silent, rejected, nfm, nfm-start, intervals, query, bad, Call, timed, typed, answer}
-use Rattle.rules.specs.Tables.{Kind, action, scheduled}
+use Rattle.rules.specs.Tables.{highestTime, Kind, action, scheduled}
 use Rattle.rules.specs.Rules.{State, Facts, check, inRange, timely, stands, refusal, wait, failed, verdict, ruling, refused, changed, adds, learn}
 
 pub and-left : (x y : Bool) → (x && y) ≡ true → x ≡ true
@@ -60,17 +60,22 @@ permit-passed w c e = go (eqb (refusal (w .facts) c) 0) refl e
     go true p e = eqb-true n 0 p
     go false p e = e
 
--- a call that passed check 3 is not before the last time
+-- a call that passed check 3 is neither before the last time nor after the highest
 passed : (ok : Bool) (n rest : ℕ) → eqb n 0 ≡ false → check ok n rest ≡ 0 → (ok ≡ true) × (rest ≡ 0)
 passed true n rest z e = (refl, e)
 passed false n rest z e = absurd (eqb-false n 0 z e)
 
-pub on-time : (f : Facts) (t : ℕ) (e : Event) → refusal f (timed t e) ≡ 0 → f .last ≤ t
+is-timely : (f : Facts) (t : ℕ) (e : Event) → refusal f (timed t e) ≡ 0 → timely f t ≡ true
 unfolding refusal
-on-time f t e p =
+is-timely f t e p =
     let h = passed (inRange e) 2 (check (timely f t) 3 (check (stands f e) 4 0)) refl p .1 in
-    let g = passed (timely f t) 3 (check (stands f e) 4 0) refl h .0 in
-    leb-true (f .last) t (and-left _ _ g)
+    passed (timely f t) 3 (check (stands f e) 4 0) refl h .0
+
+pub on-time : (f : Facts) (t : ℕ) (e : Event) → refusal f (timed t e) ≡ 0 → f .last ≤ t
+on-time f t e p = leb-true (f .last) t (and-left (leb (f .last) t) (leb t highestTime) (is-timely f t e p))
+
+pub in-time : (f : Facts) (t : ℕ) (e : Event) → refusal f (timed t e) ≡ 0 → t ≤ highestTime
+in-time f t e p = leb-true t highestTime (and-right (leb (f .last) t) (leb t highestTime) (is-timely f t e p))
 
 -- a refused call is added to no list, and changes nothing
 pub refused-adds : (k : Kind) (c : Call) (a : Answer) → refused a ≡ true → adds k c a ≡ []
@@ -86,9 +91,18 @@ refused-nothing w c a e = go (refused a) e
     go true p = λ i. record { facts = w .facts; lists = λ k. (ap (λ (l : List ℕ). w .lists k ++ l) (refused-adds k c a e) ∙ append-nil (w .lists k)) i }
     go false p = absurd (false≢true p)
 
--- ---- 20 carries the wait
+-- ---- 20 carries the wait, and is given while NFM is 1
 
-failed-wait : (f : Facts) (s n : ℕ) → failed f s n .number ≡ 20 → failed f s n .second ≡ wait f s
+pub failed-on : (f : Facts) (s n : ℕ) → failed f s n .number ≡ 20 → eqb (f .mode .nfm) 1 ≡ true
+unfolding failed
+failed-on f s n e = go (eqb n 20) (eqb (f .mode .nfm) 1) refl e
+  where
+    go : (x y : Bool) → eqb n 20 ≡ x → (cond x (cond y (answer 20 (wait f s)) (answer 23 0)) (answer n 0)) .number ≡ 20 → y ≡ true
+    go true true p e = refl
+    go true false p e = absurd (omega arith)
+    go false y p e = absurd (eqb-false n 20 p e)
+
+pub failed-wait : (f : Facts) (s n : ℕ) → failed f s n .number ≡ 20 → failed f s n .second ≡ wait f s
 unfolding failed
 failed-wait f s n e = go (eqb n 20) (eqb (f .mode .nfm) 1) refl e
   where

@@ -139,7 +139,7 @@ learn-same w c a i = record {
 
 -- ---- A sound state stays sound
 
-acted-keeps : (t : ℕ) (e : Event) (a : Answer) (f : Facts) → (acted t e a f .opening ≡ f .opening) × (acted t e a f .last ≡ f .last)
+pub acted-keeps : (t : ℕ) (e : Event) (a : Answer) (f : Facts) → (acted t e a f .opening ≡ f .opening) × (acted t e a f .last ≡ f .last)
 unfolding acted
 acted-keeps t (ask _) a f = (refl, refl)
 acted-keeps t (granted _) a f = (refl, refl)
@@ -148,7 +148,7 @@ acted-keeps t (rejected _ _ _) a f = (refl, refl)
 acted-keeps t dropped a f = (refl, refl)
 acted-keeps t tick a f = (refl, refl)
 
-obeyed-keeps : (l : Line) (f : Facts) → (obeyed l f .opening ≡ f .opening) × (obeyed l f .last ≡ f .last)
+pub obeyed-keeps : (l : Line) (f : Facts) → (obeyed l f .opening ≡ f .opening) × (obeyed l f .last ≡ f .last)
 unfolding obeyed switched
 obeyed-keeps (nfm _) f = (refl, refl)
 obeyed-keeps (nfm-start _ _) f = (refl, refl)

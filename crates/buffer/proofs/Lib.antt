@@ -1,0 +1,9 @@
+pub mod Tests
+pub mod Segments
+pub mod Laying
+pub mod Goodness
+pub mod Sane
+pub mod Keep
+pub mod Scans
+pub mod Judged
+pub mod Listing

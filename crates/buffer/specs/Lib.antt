@@ -1,0 +1,5 @@
+pub mod Places
+pub mod Segments
+pub mod Layout
+pub mod Good
+pub mod Lists

@@ -1,0 +1,73 @@
+// The five lists of permit times: 0 attach, 1 activation, 2 PDP, 3 SMS, 4 reset. Each has 255 places of its own, lent on as a part of the
+// buffer, and its length in another place. One routine adds to a list, and one counts in it.
+use crate::places::LENGTHS;
+use crate::places::LISTS;
+use crate::places::ROOM;
+ghost use mathlib.Core.Path.{_≡_};
+ghost use Prim.Native.Nat.{_+_, _≤_, min};
+ghost use lib.ListN.{length, take};
+ghost use Rattle.rules.specs.Tables.{inHour};
+ghost use Rattle.buffer.specs.Layout.{row};
+ghost use Rattle.buffer.specs.Lists.{Holds, Listed, appended, permitted};
+
+// Adds t as the newest of a list's own 255 places, of which n are used; at 255 the oldest goes. Returns the new length.
+pub fn append(p: &mut [u32], n: u32, t: u32) -> u32
+    requires { ⌜ Holds (now p) n ⌝ }
+    ensures { λ r. ⌜ (r ≡ min (n + 1) 255) × (now (p .exit) ≡ appended (now (p .entry)) n t) ⌝ }
+{
+    if n < 255 {
+        let at = n as usize;
+        p[at] = t;
+        return n + 1;
+    }
+    let mut i: usize = 0;
+    while i < 254 {
+        p[i] = p[i + 1];
+        i += 1;
+    }
+    p[254] = t;
+    255
+}
+
+// A permit at t on list k: the list's places are lent to `append`, and its length is stored. No other place changes.
+pub fn permit_on(s: &mut [u32], k: usize, t: u32)
+    requires { ⌜ Listed (now s) k ⌝ }
+    ensures { λ _. ⌜ now (s .exit) ≡ permitted (now (s .entry)) k t ⌝ }
+{
+    let j = LENGTHS + k;
+    let a = LISTS + ROOM * k;
+    let e = a + ROOM;
+    let n = s[j];
+    let m = append(&mut s[a..e], n, t);
+    s[j] = m;
+}
+
+// How many of the first n times are in the hour of t.
+pub fn in_hour(p: &[u32], n: u32, t: u32) -> u32
+    requires { ⌜ n ≤ length (now p) ⌝ }
+    ensures { λ r. ⌜ r ≡ inHour t (take n (now (p .entry))) ⌝ }
+{
+    let m = n as usize;
+    let mut c: u32 = 0;
+    let mut i: usize = 0;
+    while i < m {
+        let x = p[i];
+        if x <= t {
+            if t - x < 3600 {
+                c += 1;
+            }
+        }
+        i += 1;
+    }
+    c
+}
+
+// How many permits of list k are in the hour of t.
+pub fn hour_of(s: &[u32], k: usize, t: u32) -> u32
+    requires { ⌜ Listed (now s) k ⌝ }
+    ensures { λ r. ⌜ r ≡ inHour t (row (now (s .entry)) k) ⌝ }
+{
+    let a = LISTS + ROOM * k;
+    let e = a + ROOM;
+    in_hour(&s[a..e], s[LENGTHS + k], t)
+}
