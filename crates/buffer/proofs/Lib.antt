@@ -7,3 +7,4 @@ pub mod Keep
 pub mod Scans
 pub mod Judged
 pub mod Listing
+pub mod Laid

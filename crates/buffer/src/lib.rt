@@ -2,6 +2,7 @@
 // `fields` reads and writes single places and groups of them, `lists` adds to and counts in the five lists of permit times.
 //
 // What the table says is in specs/: `lay`, `view`, `good`. No function here assumes more than it requires.
+pub mod fields;
 mod lines;
 pub mod lists;
 pub mod places;

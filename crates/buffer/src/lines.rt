@@ -1,26 +1,6 @@
 // The lines of the table, as the code tests them. The numbers of what is used come first: without them no list can be cut.
-use crate::places::COUNT;
-use crate::places::COUNTERS;
-use crate::places::ENDS;
-use crate::places::FAILURES;
-use crate::places::HOUSE;
-use crate::places::INTERVALS;
-use crate::places::LAST;
-use crate::places::LENGTHS;
-use crate::places::LETTERS;
-use crate::places::LISTS;
-use crate::places::MOOD;
-use crate::places::NFM;
-use crate::places::OPENED;
-use crate::places::PARAMETERS;
-use crate::places::QUOTIENT;
-use crate::places::RATES;
-use crate::places::REMAINDER;
-use crate::places::ROOM;
-use crate::places::RPM;
-use crate::places::STANDING;
-use crate::places::START;
-use crate::places::VERSION;
+use crate::fields::imsi;
+use crate::places as at;
 use crate::scan::capped;
 use crate::scan::rising;
 ghost use mathlib.Core.Path.{_≡_};
@@ -45,13 +25,7 @@ pub fn counted(s: &[u32]) -> bool
     requires { ⌜ length (now s) ≡ SIZE ⌝ }
     ensures { λ r. ⌜ r ≡ (count-good (getD (now (s .entry)) COUNT 0) && bytes (part (now (s .entry)) LENGTHS 5)) ⌝ }
 {
-    (1 <= s[COUNT]) & (s[COUNT] <= 10) & band(s, LENGTHS, 5, 255)
-}
-
-fn wide(x: u32) -> u64
-    ensures { λ r. ⌜ (r ≡ x) × (r < 4294967296) ⌝ }
-{
-    x as u64
+    (1 <= s[at::COUNT]) & (s[at::COUNT] <= 10) & band(s, at::LENGTHS, 5, 255)
 }
 
 // Places 0-8: letters, version, times, IMSI, flags.
@@ -59,12 +33,12 @@ pub fn headed(s: &[u32]) -> bool
     requires { ⌜ length (now s) ≡ SIZE ⌝ }
     ensures { λ r. ⌜ r ≡ some-lines (now (s .entry)) 1 5 ⌝ }
 {
-    let imsi = wide(s[QUOTIENT]) * 4294967296 + wide(s[REMAINDER]);
-    (s[LETTERS] == 0x00575250)
-        & (s[VERSION] == 1)
-        & ((s[OPENED] <= s[LAST]) & (s[LAST] <= 4000000000))
-        & (imsi <= 999999999999999)
-        & ((s[NFM] <= 1) & (s[START] <= 1) & (s[RPM] <= 1))
+    let number = imsi(s);
+    (s[at::LETTERS] == 0x00575250)
+        & (s[at::VERSION] == 1)
+        & ((s[at::OPENED] <= s[at::LAST]) & (s[at::LAST] <= 4000000000))
+        & (number <= 999999999999999)
+        & ((s[at::NFM] <= 1) & (s[at::START] <= 1) & (s[at::RPM] <= 1))
 }
 
 // Places 10-19: the intervals.
@@ -73,9 +47,9 @@ pub fn scheduled(s: &[u32]) -> bool
     requires { ⌜ getD (now s) COUNT 0 ≤ 10 ⌝ }
     ensures { λ r. ⌜ r ≡ some-lines (now (s .entry)) 7 1 ⌝ }
 {
-    let n = s[COUNT] as usize;
-    let e = INTERVALS + n;
-    rising(&s[INTERVALS..e], 1, 65535) & capped(&s[e..PARAMETERS], 0)
+    let n = s[at::COUNT] as usize;
+    let e = at::INTERVALS + n;
+    rising(&s[at::INTERVALS..e], 1, 65535) & capped(&s[e..at::PARAMETERS], 0)
 }
 
 // Places 20-34: the numbers of one byte.
@@ -83,10 +57,10 @@ pub fn small(s: &[u32]) -> bool
     requires { ⌜ length (now s) ≡ SIZE ⌝ }
     ensures { λ r. ⌜ r ≡ some-lines (now (s .entry)) 8 4 ⌝ }
 {
-    band(s, PARAMETERS, 6, 255)
-        & band(s, HOUSE, 2, 255)
-        & band(s, RATES, 3, 255)
-        & band(s, FAILURES, 4, 255)
+    band(s, at::PARAMETERS, 6, 255)
+        & band(s, at::HOUSE, 2, 255)
+        & band(s, at::RATES, 3, 255)
+        & band(s, at::FAILURES, 4, 255)
 }
 
 // Places 35-49: back-off ends, standing, mood, counters.
@@ -94,15 +68,15 @@ pub fn served(s: &[u32]) -> bool
     requires { ⌜ length (now s) ≡ SIZE ⌝ }
     ensures { λ r. ⌜ r ≡ some-lines (now (s .entry)) 12 4 ⌝ }
 {
-    (band(s, ENDS, 4, 4000131069)
-        & ((s[NFM] == 1) | band(s, ENDS, 4, 0))
-        & ((s[STANDING + 2] != 2) | (s[ENDS + 2] == 0)))
-        & ((s[STANDING] <= 1)
-            & (s[STANDING + 1] <= 1)
-            & (s[STANDING + 2] <= 2)
-            & (s[STANDING + 3] <= 1))
-        & (s[MOOD] <= 3)
-        & band(s, COUNTERS, 6, 255)
+    (band(s, at::ENDS, 4, 4000131069)
+        & ((s[at::NFM] == 1) | band(s, at::ENDS, 4, 0))
+        & ((s[at::STANDING + 2] != 2) | (s[at::ENDS + 2] == 0)))
+        & ((s[at::STANDING] <= 1)
+            & (s[at::STANDING + 1] <= 1)
+            & (s[at::STANDING + 2] <= 2)
+            & (s[at::STANDING + 3] <= 1))
+        & (s[at::MOOD] <= 3)
+        & band(s, at::COUNTERS, 6, 255)
 }
 
 // List k of the five: in order and within the times, its unused places 0.
@@ -112,10 +86,10 @@ fn row(s: &[u32], k: usize) -> bool
     requires { ⌜ getD (now s) (LENGTHS + k) 0 ≤ 255 ⌝ }
     ensures { λ r. ⌜ r ≡ row-good (now (s .entry)) k ⌝ }
 {
-    let a = LISTS + ROOM * k;
-    let m = a + s[LENGTHS + k] as usize;
-    let e = a + ROOM;
-    rising(&s[a..m], s[OPENED], s[LAST]) & capped(&s[m..e], 0)
+    let a = at::LISTS + at::ROOM * k;
+    let m = a + s[at::LENGTHS + k] as usize;
+    let e = a + at::ROOM;
+    rising(&s[a..m], s[at::OPENED], s[at::LAST]) & capped(&s[m..e], 0)
 }
 
 // Places 55-1329: the five lists.

@@ -1,8 +1,6 @@
 // The five lists of permit times: 0 attach, 1 activation, 2 PDP, 3 SMS, 4 reset. Each has 255 places of its own, lent on as a part of the
 // buffer, and its length in another place. One routine adds to a list, and one counts in it.
-use crate::places::LENGTHS;
-use crate::places::LISTS;
-use crate::places::ROOM;
+use crate::places as at;
 ghost use mathlib.Core.Path.{_≡_};
 ghost use Prim.Native.Nat.{_+_, _≤_, min};
 ghost use lib.ListN.{length, take};
@@ -34,9 +32,9 @@ pub fn permit_on(s: &mut [u32], k: usize, t: u32)
     requires { ⌜ Listed (now s) k ⌝ }
     ensures { λ _. ⌜ now (s .exit) ≡ permitted (now (s .entry)) k t ⌝ }
 {
-    let j = LENGTHS + k;
-    let a = LISTS + ROOM * k;
-    let e = a + ROOM;
+    let j = at::LENGTHS + k;
+    let a = at::LISTS + at::ROOM * k;
+    let e = a + at::ROOM;
     let n = s[j];
     let m = append(&mut s[a..e], n, t);
     s[j] = m;
@@ -67,7 +65,7 @@ pub fn hour_of(s: &[u32], k: usize, t: u32) -> u32
     requires { ⌜ Listed (now s) k ⌝ }
     ensures { λ r. ⌜ r ≡ inHour t (row (now (s .entry)) k) ⌝ }
 {
-    let a = LISTS + ROOM * k;
-    let e = a + ROOM;
-    in_hour(&s[a..e], s[LENGTHS + k], t)
+    let a = at::LISTS + at::ROOM * k;
+    let e = a + at::ROOM;
+    in_hour(&s[a..e], s[at::LENGTHS + k], t)
 }

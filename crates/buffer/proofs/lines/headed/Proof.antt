@@ -1,6 +1,7 @@
 -- `buffer::lines::headed` meets its contract. Assumes nothing.
-use Prim.Native.Nat.{_^_}
+use Prim.Native.Nat.{ℕ, _^_}
 use mathlib.Core.Path.{refl}
+use mathlib.Core.List.{List}
 use lib.ListN.{getD}
 use borrow.Author.Tests.{lt-ltb}
 use Rattle.buffer.specs.Layout.{factsOf}
@@ -9,23 +10,8 @@ use borrow.Author.Needs.{needs}
 use Rattle.buffer.proofs.lines.headed.Statement.{statement}
 use Rattle.buffer.proofs.lines.headed.Tie as tie
 
-shared-slice-read-wide : tie.Need-shared-slice-read-wide
-shared-slice-read-wide c = search needs
-
-wide-requires : tie.Need-wide-requires
-wide-requires c κs = search needs
-
-mul-imsi : tie.Need-mul-imsi
-mul-imsi c = search needs
-
-shared-slice-read-wide-2 : tie.Need-shared-slice-read-wide-2
-shared-slice-read-wide-2 c = search needs
-
-wide-requires-2 : tie.Need-wide-requires-2
-wide-requires-2 c κs = search needs
-
-add-imsi : tie.Need-add-imsi
-add-imsi c = search needs
+imsi-requires : tie.Need-imsi-requires
+imsi-requires c κs = search needs
 
 shared-slice-read-result : tie.Need-shared-slice-read-result
 shared-slice-read-result c = search needs
@@ -54,20 +40,15 @@ shared-slice-read-result-8 c = search needs
 returns : tie.Need-returns
 unfolding lines times-good imsi-good flags-good factsOf
 returns c =
-    let w = c .before .before .before .before .before .before .before .before in
-    let b = w .before .before .before .before .before .args .s .now in
-    rw (w .wide2 .ensures .0, w .before .before .wide .ensures .0, lt-ltb (getD b 5 0) (2 ^ 32) (w .before .before .before .before .shared-slice-known .given 5 .fits))
+    let d = c .before .before .before .before .before .before .before .before in
+    let b : List ℕ = d .before .before .args .s .now in
+    rw (d .imsi .ensures, lt-ltb (getD b 5 0) (2 ^ 32) (d .before .shared-slice-known .given 5 .fits))
 
 pub headed-spec : {M : Type 1} → statement M
 headed-spec =
     tie.close
     (tie.spec
-    shared-slice-read-wide
-    wide-requires
-    mul-imsi
-    shared-slice-read-wide-2
-    wide-requires-2
-    add-imsi
+    imsi-requires
     shared-slice-read-result
     shared-slice-read-result-2
     shared-slice-read-result-3

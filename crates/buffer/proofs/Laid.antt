@@ -1,0 +1,108 @@
+-- A buffer that lays out known facts and lists: what each place of it holds, and what each store makes of it. Assumes nothing.
+use mathlib.Core.Path.{_≡_, refl, sym, ap, _∙_}
+use mathlib.Core.Bool.{true}
+use mathlib.Core.List.{List, [], _∷_, _++_}
+use Prim.Native.Nat.{ℕ, _+_, _<_}
+use lib.Dec.{lit<}
+use lib.ListN.{length, getD, set, length-set}
+use Rattle.rules.specs.Rules.{State, Facts, Mode, Services, newest}
+use Rattle.buffer.specs.Places.{SIZE, LAST, NFM, START, FAILURES, ENDS, STANDING, MOOD, COUNTERS}
+use Rattle.buffer.specs.Layout.{segments, spread, lay, rows, factsOf, view}
+use Rattle.buffer.specs.Good.{good}
+use Rattle.buffer.specs.Lists.{Listed, permitted}
+use Rattle.buffer.proofs.Laying.{Shaped, get, put, length-lay}
+use Rattle.buffer.proofs.Goodness.{Shape, shape-lay, shaped, lay-view, good-shape}
+use Rattle.buffer.proofs.Listing.{shaped-permit, permit-row, row-listed}
+
+-- facts with one part replaced
+abbrev pub withLast : Facts → ℕ → Facts
+withLast f t = record { opening = f .opening; mode = f .mode; last = t; counters = f .counters; services = f .services }
+
+abbrev pub withCounters : Facts → List ℕ → Facts
+withCounters f l = record { opening = f .opening; mode = f .mode; last = f .last; counters = l; services = f .services }
+
+abbrev pub withMode : Facts → Mode → Facts
+withMode f m = record { opening = f .opening; mode = m; last = f .last; counters = f .counters; services = f .services }
+
+abbrev pub withServices : Facts → (failures ends standing : List ℕ) → ℕ → Facts
+withServices f a b c m = record { opening = f .opening; mode = f .mode; last = f .last; counters = f .counters; services = record { failures = a; ends = b; standing = c; mood = m } }
+
+pub record Laid (b : List ℕ) (f : Facts) (rs : List (List ℕ)) : Type 0 where
+  pub shaped : Shaped f rs
+  pub is : b ≡ spread f rs
+
+pub laid-good : (b : List ℕ) → good b ≡ true → Laid b (factsOf b) (rows (view b .lists))
+laid-good b h = let s = good-shape b h in record { shaped = shaped b s; is = sym (lay-view b s) }
+
+module _ {b : List ℕ} {f : Facts} {rs : List (List ℕ)} (l : Laid b f rs) where
+  pub laid-as : {x : List ℕ} → x ≡ b → Laid x f rs
+  laid-as e = record { shaped = l .shaped; is = e ∙ l .is }
+
+  pub laid-long : length b ≡ SIZE
+  laid-long = ap length (l .is) ∙ length-lay f rs (l .shaped)
+
+  pub laid-listed : (k : ℕ) → k < 5 → Listed b k
+  laid-listed k h = row-listed b (rw (l .is) (shape-lay f rs (l .shaped))) k h
+
+  -- reads
+  pub counter-at : (i : ℕ) → i < 6 → getD b (COUNTERS + i) 0 ≡ getD (f .counters) i 0
+  unfolding segments
+  counter-at i h = rw (l .is) (get f rs (l .shaped) 14 i h)
+
+  pub failures-at : (i : ℕ) → i < 4 → getD b (FAILURES + i) 0 ≡ getD (f .services .failures) i 0
+  unfolding segments
+  failures-at i h = rw (l .is) (get f rs (l .shaped) 10 i h)
+
+  -- facts of the same shape
+  same-shape : (g : Facts) → g .mode .intervals ≡ f .mode .intervals → length (g .services .failures) ≡ length (f .services .failures)
+      → length (g .services .ends) ≡ length (f .services .ends) → length (g .services .standing) ≡ length (f .services .standing)
+      → length (g .counters) ≡ length (f .counters) → Shaped g rs
+  same-shape g i a e s c = record {
+    intervals = rw i (l .shaped .intervals);
+    failures = a ∙ l .shaped .failures;
+    ends = e ∙ l .shaped .ends;
+    standing = s ∙ l .shaped .standing;
+    counters = c ∙ l .shaped .counters;
+    five = l .shaped .five;
+    short = l .shaped .short;
+  }
+
+  -- stores
+  pub laid-last : (t : ℕ) → Laid (set b LAST t) (withLast f t) rs
+  unfolding spread segments
+  laid-last t = record { shaped = same-shape _ refl refl refl refl refl; is = rw (l .is) (put f rs (l .shaped) 2 1 t (lit< tt)) }
+
+  pub laid-nfm : (a : ℕ) → Laid (set b NFM a) (withMode f (record { nfm = a; start = f .mode .start; intervals = f .mode .intervals })) rs
+  unfolding spread segments
+  laid-nfm a = record { shaped = same-shape _ refl refl refl refl refl; is = rw (l .is) (put f rs (l .shaped) 4 0 a (lit< tt)) }
+
+  pub laid-start : (a : ℕ) → Laid (set b START a) (withMode f (record { nfm = f .mode .nfm; start = a; intervals = f .mode .intervals })) rs
+  unfolding spread segments
+  laid-start a = record { shaped = same-shape _ refl refl refl refl refl; is = rw (l .is) (put f rs (l .shaped) 4 1 a (lit< tt)) }
+
+  pub laid-mood : (a : ℕ) → Laid (set b MOOD a) (withServices f (f .services .failures) (f .services .ends) (f .services .standing) a) rs
+  unfolding spread segments
+  laid-mood a = record { shaped = same-shape _ refl refl refl refl refl; is = rw (l .is) (put f rs (l .shaped) 13 0 a (lit< tt)) }
+
+  pub laid-failures : (i a : ℕ) → i < 4
+      → Laid (set b (FAILURES + i) a) (withServices f (set (f .services .failures) i a) (f .services .ends) (f .services .standing) (f .services .mood)) rs
+  unfolding spread segments
+  laid-failures i a h = record { shaped = same-shape _ refl (length-set (f .services .failures) i a) refl refl refl; is = rw (l .is) (put f rs (l .shaped) 10 i a h) }
+
+  pub laid-end : (i a : ℕ) → i < 4
+      → Laid (set b (ENDS + i) a) (withServices f (f .services .failures) (set (f .services .ends) i a) (f .services .standing) (f .services .mood)) rs
+  unfolding spread segments
+  laid-end i a h = record { shaped = same-shape _ refl refl (length-set (f .services .ends) i a) refl refl; is = rw (l .is) (put f rs (l .shaped) 11 i a h) }
+
+  pub laid-standing : (i a : ℕ) → i < 4
+      → Laid (set b (STANDING + i) a) (withServices f (f .services .failures) (f .services .ends) (set (f .services .standing) i a) (f .services .mood)) rs
+  unfolding spread segments
+  laid-standing i a h = record { shaped = same-shape _ refl refl refl (length-set (f .services .standing) i a) refl; is = rw (l .is) (put f rs (l .shaped) 12 i a h) }
+
+  pub laid-counter : (i a : ℕ) → i < 6 → Laid (set b (COUNTERS + i) a) (withCounters f (set (f .counters) i a)) rs
+  unfolding spread segments
+  laid-counter i a h = record { shaped = same-shape _ refl refl refl refl (length-set (f .counters) i a); is = rw (l .is) (put f rs (l .shaped) 14 i a h) }
+
+  -- a permit on list k
+  pub laid-permit : (k t : ℕ) → k < 5 → Laid (permitted b k t) f (set rs k (newest (getD rs k [] ++ (t ∷ []))))
+  laid-permit k t h = record { shaped = shaped-permit f rs (l .shaped) k h t; is = rw (l .is) (permit-row f rs (l .shaped) k h t) }
