@@ -1,21 +1,21 @@
 -- A good buffer is a valid state laid out, and lays its own state out; a valid state is laid out as a good buffer. Assumes nothing.
 use mathlib.Core.Path.{_≡_, refl, sym, ap, _∙_, subst}
-use mathlib.Core.Bool.{Bool, true, false, _&&_}
+use mathlib.Core.Bool.{Bool, true, _&&_}
 use mathlib.Core.List.{List, [], _∷_, _++_, map}
 use Prim.Native.Nat.{ℕ, zero, suc, _+_, _-_, _*_, _^_, _≤_, _<_, zero-le}
 use native.Mathlib.Nat.{le-of-eq, mod-lt}
 use native.Mathlib.Omega.{arith}
 use borrow.Author.Tests.{leb-true, ltb-true, eqb-true, le-leb, eq-eqb, lt-ltb}
-use lib.Dec.{lit<, lit≤, leb, ltb, eqb}
+use lib.Dec.{lit<, lit≤, leb, ltb}
 use lib.Arith.{digits-div, digits-mod}
-use lib.ListN.{length, getD, take, drop, replicate, length-take, length-drop, length-append, take-append-drop, List·getD-map}
+use lib.ListN.{length, getD, take, drop, replicate, length-take, length-drop, take-append-drop, List·getD-map}
 use lib.Seq.{take-take, take-all, drop-append-seam}
 use Rattle.rules.specs.Rules.{State, Facts}
 use Rattle.buffer.specs.Places.{SIZE, LETTERS, VERSION, REMAINDER, COUNT, INTERVALS, LENGTHS, LISTS}
-use Rattle.buffer.specs.Segments.{concat, off, part, pad}
+use Rattle.buffer.specs.Segments.{concat, part, pad}
 use Rattle.buffer.specs.Layout.{letters, widths, segments, spread, lay, rows, row, factsOf, view}
 use Rattle.buffer.specs.Good.{every, atMost, zeros, bytes, unused, count-good, imsi-good, intervals-good, list-good, row-good, lines, good, fits, values, valid}
-use Rattle.buffer.proofs.Tests.{and-left, and-right, pick, Each, passed, each, nth}
+use Rattle.buffer.proofs.Tests.{and-left, and-right, pick, passed}
 use Rattle.buffer.proofs.Segments.{pieces, concat-pieces, spelled, spell, length-part, part-at}
 use Rattle.buffer.proofs.Laying.{Shaped, length-pad, length-lay, get, cut, places-at, count-at, view-lay}
 

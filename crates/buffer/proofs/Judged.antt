@@ -1,14 +1,14 @@
 -- A buffer is judged by its counts first and the other lines after them, in groups: that is the table's list of lines. Assumes nothing.
-use mathlib.Core.Path.{_≡_, refl, sym, _∙_}
-use mathlib.Core.Bool.{Bool, true, false, _&&_, false≢true}
-use mathlib.Core.List.{List, [], _∷_}
+use mathlib.Core.Path.{_≡_, refl, sym}
+use mathlib.Core.Bool.{Bool, true, false, _&&_}
+use mathlib.Core.List.{List}
 use Prim.Native.Nat.{ℕ, _≤_}
 use borrow.Author.Tests.{eq-eqb, ne-eqb, leb-true}
 use lib.Dec.{leb}
 use lib.ListN.{length, getD, take, drop}
 use Rattle.buffer.specs.Places.{SIZE, COUNT, LENGTHS}
 use Rattle.buffer.specs.Segments.{part}
-use Rattle.buffer.specs.Good.{every, bytes, count-good, lines, good, some-lines}
+use Rattle.buffer.specs.Good.{bytes, count-good, lines, good, some-lines}
 use Rattle.buffer.proofs.Tests.{and-left, and-right, pick, passed, fails}
 use Rattle.buffer.proofs.Goodness.{both-true}
 

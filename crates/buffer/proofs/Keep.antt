@@ -1,5 +1,5 @@
 -- A valid state stays valid, whatever the call. Assumes nothing.
-use mathlib.Core.Path.{_≡_, refl, sym, ap, _∙_, subst}
+use mathlib.Core.Path.{_≡_, refl, sym, ap, _∙_}
 use mathlib.Core.Bool.{Bool, true, false, cond, _&&_, false≢true}
 use mathlib.Core.List.{List, [], _∷_, _++_, append-nil}
 use Prim.Native.Nat.{ℕ, zero, suc, _+_, _-_, _%_, _≤_, _<_, min}
@@ -10,15 +10,15 @@ use lib.ListN.{length, getD, set, drop, length-set, length-drop}
 use lib.Seq.{getD-set-same, getD-set-other}
 use borrow.Author.Tests.{leb-true, le-leb, eqb-true, eqb-false, eq-eqb}
 use Rattle.rules.specs.declared.Answer.{Answer}
-use Rattle.rules.specs.Calls.{Event, ask, granted, silent, rejected, dropped, tick, Line, nfm, nfm-start, intervals, query, bad, Call, timed, typed, answer}
+use Rattle.rules.specs.Calls.{Event, ask, granted, silent, rejected, dropped, tick, Line, nfm, nfm-start, intervals, query, bad, Call, timed, typed}
 use Rattle.rules.specs.Tables.{highestTime, Kind, among, action, moodOn, oneMore, interval, waitFor, ascending, scheduled}
-use Rattle.rules.specs.Rules.{State, Facts, Mode, Services, check, refusal, wait, failed, verdict, ruling, refused, moved, raised, counted, idle, asked, onGranted, onFailed, withStanding, acted, switched, obeyed, changed, onto, adds, learn, newest, short, step}
+use Rattle.rules.specs.Rules.{State, Facts, Services, check, refusal, wait, failed, verdict, ruling, refused, moved, raised, counted, idle, asked, onGranted, onFailed, withStanding, acted, switched, obeyed, changed, onto, adds, learn, newest, short, step}
 use Rattle.rules.proofs.Checks.{accepted, on-time, in-time, refused-adds, failed-wait, failed-on}
 use Rattle.rules.proofs.Newest.{acted-keeps, obeyed-keeps}
-use Rattle.buffer.specs.Good.{atMost, zeros, bytes, valid}
+use Rattle.buffer.specs.Good.{atMost, zeros, bytes, highestEnd, valid}
 use Rattle.buffer.proofs.Tests.{and-left, and-right}
 use Rattle.buffer.proofs.Goodness.{at-most}
-use Rattle.buffer.proofs.Sane.{highest, SaneMode, SaneServices, SaneCounters, Sane, Valid, valid-facts, facts-valid}
+use Rattle.buffer.proofs.Sane.{highest, SaneServices, SaneCounters, Sane, Valid, valid-facts, facts-valid}
 
 -- ---- Lists of numbers
 
@@ -172,7 +172,7 @@ module _ (n : ℕ) (v : Services) (h : SaneServices n v) where
       go false false = all-idle
 
   -- other failures, ends and mood
-  with-failures : (l e : List ℕ) (d : ℕ) → length l ≡ 4 → bytes l ≡ true → length e ≡ 4 → atMost 4000131069 e ≡ true → (eqb n 1 ≡ false → zeros e ≡ true)
+  with-failures : (l e : List ℕ) (d : ℕ) → length l ≡ 4 → bytes l ≡ true → length e ≡ 4 → atMost highestEnd e ≡ true → (eqb n 1 ≡ false → zeros e ≡ true)
       → (getD (v .standing) 2 0 ≡ 2 → getD e 2 0 ≡ 0) → d ≤ 3 → SaneServices n (record { failures = l; ends = e; standing = v .standing; mood = d })
   with-failures l e d four small four′ low off free m = record {
     four-failures = four;
@@ -211,7 +211,7 @@ granted-sane n v s h = stands-at n cleared clear s (cond (eqb s 2) 2 0) (low (eq
         (length-set (v .failures) s 0 ∙ h .four-failures)
         (at-most-set 255 (v .failures) s 0 (h .failures) (omega arith))
         (length-set (v .ends) s 0 ∙ h .four-ends)
-        (at-most-set 4000131069 (v .ends) s 0 (h .ends) (omega arith))
+        (at-most-set highestEnd (v .ends) s 0 (h .ends) (omega arith))
         (λ e. at-most-set 0 (v .ends) s 0 (h .off e) (omega arith))
         (λ e. end-2 ∙ still (eqb s 2) (h .free e))
         (cond-le (eqb s 2) 0 (v .mood) 3 (omega arith) (h .mood))
@@ -230,7 +230,7 @@ granted-sane n v s h = stands-at n cleared clear s (cond (eqb s 2) 2 0) (low (eq
 -- what an answer 20 says
 record Backs (n t : ℕ) (a : Answer) : Type 0 where
   on : eqb n 1 ≡ true
-  end : t + a .second ≤ 4000131069
+  end : t + a .second ≤ highestEnd
 
 -- silence or a rejection of service s at t, answered a
 failed-sane : (n : ℕ) (v : Services) (t s : ℕ) (a : Answer) (d : ℕ) → SaneServices n v → d ≤ 3 → (a .number ≡ 20 → Backs n t a) → SaneServices n (onFailed t s a d v)
@@ -261,7 +261,7 @@ failed-sane n v t s a d h low k = go (eqb (a .number) 20) refl
         (length-set (v .failures) s more ∙ h .four-failures)
         (at-most-set 255 (v .failures) s more (h .failures) (omega arith))
         (length-set (v .ends) s (t + a .second) ∙ h .four-ends)
-        (at-most-set 4000131069 (v .ends) s (t + a .second) (h .ends) (y .end))
+        (at-most-set highestEnd (v .ends) s (t + a .second) (h .ends) (y .end))
         (λ z. absurd (false≢true (sym z ∙ y .on)))
         (λ z. getD-set (v .ends) s 2 (t + a .second) (omega (arith, h .four-ends)) ∙ up-not (eqb s 2) (t + a .second) (getD (v .ends) 2 0) (rw stand at z) (idled .free z))
         mood-low

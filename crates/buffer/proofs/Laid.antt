@@ -5,13 +5,13 @@ use mathlib.Core.List.{List, [], _∷_, _++_}
 use Prim.Native.Nat.{ℕ, _+_, _<_}
 use lib.Dec.{lit<}
 use lib.ListN.{length, getD, set, length-set}
-use Rattle.rules.specs.Rules.{State, Facts, Mode, Services, newest}
+use Rattle.rules.specs.Rules.{Facts, Mode, newest}
 use Rattle.buffer.specs.Places.{SIZE, LAST, NFM, START, FAILURES, ENDS, STANDING, MOOD, COUNTERS}
-use Rattle.buffer.specs.Layout.{segments, spread, lay, rows, factsOf, view}
+use Rattle.buffer.specs.Layout.{segments, spread, rows, factsOf, view}
 use Rattle.buffer.specs.Good.{good}
 use Rattle.buffer.specs.Lists.{Listed, permitted}
 use Rattle.buffer.proofs.Laying.{Shaped, get, put, length-lay}
-use Rattle.buffer.proofs.Goodness.{Shape, shape-lay, shaped, lay-view, good-shape}
+use Rattle.buffer.proofs.Goodness.{shape-lay, shaped, lay-view, good-shape}
 use Rattle.buffer.proofs.Listing.{shaped-permit, permit-row, row-listed}
 
 -- facts with one part replaced

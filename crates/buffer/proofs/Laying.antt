@@ -1,16 +1,16 @@
 -- The laws of the layout: each place and part of what is laid out, and that it reads back. Assumes nothing.
-use mathlib.Core.Path.{_≡_, refl, sym, ap, _∙_, subst}
-use mathlib.Core.List.{List, [], _∷_, _++_, map, append-nil}
-use Prim.Native.Nat.{ℕ, zero, suc, _+_, _-_, _*_, _/_, _%_, _^_, _≤_, _<_, zero-le}
-use native.Mathlib.Nat.{zero-add, suc-add, add-assoc, add-zero, not-suc-le-zero, le-of-suc-le-suc, div-add-mod', mul-suc, mul-zero, add-comm}
+use mathlib.Core.Path.{_≡_, refl, sym, ap, _∙_}
+use mathlib.Core.List.{List, [], _∷_, map, append-nil}
+use Prim.Native.Nat.{ℕ, zero, suc, _+_, _*_, _/_, _^_, _≤_, _<_, zero-le}
+use native.Mathlib.Nat.{zero-add, add-zero, not-suc-le-zero, le-of-suc-le-suc, div-add-mod', mul-suc, mul-zero, add-comm}
 use native.Mathlib.Omega.{arith}
-use lib.Dec.{lit<, lit≤}
-use lib.ListN.{length, getD, take, drop, set, replicate, getD-replicate, length-append, length-set, length-replicate, List·getD-map, length-map, drop-of-length-le}
-use lib.Seq.{take-append-seam, take-all, drop-cons}
+use lib.Dec.{lit<}
+use lib.ListN.{length, getD, take, set, replicate, getD-replicate, length-append, length-set, length-replicate, List·getD-map, length-map, drop-of-length-le}
+use lib.Seq.{take-append-seam, take-all}
 use Rattle.rules.specs.Tables.{Kind, attach, activation, pdp, sms, reset}
 use Rattle.rules.specs.Rules.{State, Facts}
 use Rattle.buffer.specs.Segments.{concat, off, part, pad, paste}
-use Rattle.buffer.specs.Places.{LAST, NFM, START, FAILURES, ENDS, STANDING, MOOD, COUNTERS, LENGTHS, LISTS}
+use Rattle.buffer.specs.Places.{LENGTHS, LISTS}
 use Rattle.buffer.specs.Layout.{widths, segments, spread, lay, rows, place, row, factsOf, view}
 use Rattle.buffer.proofs.Segments.{getD-seg, set-seg, part-seg, paste-seg, length-seg, width-set, map-set}
 

@@ -1,21 +1,21 @@
 -- The laws of one list's places: what a shift leaves, and what `appended` is with room and without.
 -- Assumes nothing.
 use mathlib.Core.Path.{_≡_, refl, sym, ap, _∙_, subst}
-use mathlib.Core.Bool.{Bool, true, false, cond, _&&_}
-use mathlib.Core.List.{List, [], _∷_, _++_, append-assoc, append-nil}
+use mathlib.Core.Bool.{Bool, true, false, cond}
+use mathlib.Core.List.{List, [], _∷_, _++_, append-nil}
 use Prim.Native.Nat.{ℕ, zero, suc, _+_, _-_, _*_, _≤_, _<_, min}
 use native.Mathlib.Nat.{not-suc-le-zero, le-of-suc-le-suc, le-of-eq}
 use native.Mathlib.Numerals.{add-one}
 use native.Mathlib.Omega.{arith}
-use lib.Dec.{leb, ltb, eqb, lit≤}
-use lib.ListN.{length, take, drop, getD, set, replicate, length-append, length-take, length-drop, length-set, length-replicate, drop-of-length-le}
-use lib.Seq.{drop-append-seam, take-append-seam, take-all, drop-append-le, set-split, drop-drop, drop-cons, append-snoc, slice, slice-cons, slice-empty, length-take-le}
-use borrow.Author.Tests.{le-leb, lt-leb, lt-ltb, le-ltb, leb-true, eqb-true, eq-eqb, ne-eqb}
+use lib.Dec.{lit≤}
+use lib.ListN.{length, take, drop, getD, set, replicate, length-append, length-drop, length-replicate}
+use lib.Seq.{drop-append-seam, take-all, drop-append-le, set-split, drop-drop, append-snoc, slice, slice-cons, slice-empty, length-take-le}
+use borrow.Author.Tests.{le-leb, lt-leb, lt-ltb, le-ltb}
 use Rattle.rules.specs.Tables.{within, inHour}
 use Rattle.rules.specs.Rules.{Facts, newest}
-use Rattle.buffer.specs.Segments.{pad, part, paste}
-use Rattle.buffer.specs.Layout.{spread, row}
-use Rattle.buffer.specs.Places.{SIZE, LENGTHS, LISTS}
+use Rattle.buffer.specs.Segments.{pad, part}
+use Rattle.buffer.specs.Layout.{spread}
+use Rattle.buffer.specs.Places.{LENGTHS, LISTS}
 use Rattle.buffer.specs.Lists.{Holds, Listed, appended, permitted}
 use Rattle.buffer.proofs.Segments.{length-part}
 use Rattle.buffer.proofs.Laying.{Shaped, length-pad, take-pad, places-at, count-at, set-row, shaped-row}

@@ -1,17 +1,17 @@
 -- A valid state as facts, nested by who changes what. Assumes nothing.
-use mathlib.Core.Path.{_≡_, refl, sym, ap, _∙_}
+use mathlib.Core.Path.{_≡_, refl}
 use mathlib.Core.Bool.{Bool, true, false, cond, not, _&&_, _||_, true≢false}
-use mathlib.Core.List.{List, [], _∷_, map}
-use Prim.Native.Nat.{ℕ, zero, suc, _≤_, _<_}
+use mathlib.Core.List.{List, [], map}
+use Prim.Native.Nat.{ℕ, zero, suc, _≤_}
 use native.Mathlib.Omega.{arith}
 use lib.Dec.{leb, eqb}
 use lib.ListN.{length, getD, List·getD-eq-default}
-use borrow.Author.Tests.{leb-true, le-leb, eqb-true, eqb-false, eq-eqb, ne-eqb}
+use borrow.Author.Tests.{leb-true, le-leb, eqb-true, eq-eqb}
 use Rattle.rules.specs.Calls.{Opening}
 use Rattle.rules.specs.Tables.{highestTime, Kind, attach, activation, pdp, sms, reset}
 use Rattle.rules.specs.Rules.{State, Facts, Mode, Services}
 use Rattle.buffer.specs.Layout.{rows, place}
-use Rattle.buffer.specs.Good.{every, atMost, zeros, bytes, parameters, house, rates, times-good, imsi-good, flags-good, count-good, intervals-good, ends-good, standing-good, mood-good, list-good, fits, values, valid}
+use Rattle.buffer.specs.Good.{every, atMost, zeros, bytes, highestEnd, parameters, house, rates, times-good, imsi-good, flags-good, count-good, intervals-good, ends-good, standing-good, mood-good, list-good, fits, values, valid}
 use Rattle.buffer.proofs.Tests.{and-left, and-right, pick, passed}
 use Rattle.buffer.proofs.Laying.{Shaped, at-place}
 use Rattle.buffer.proofs.Goodness.{both-true, shaped-valid, fits-shaped}
@@ -39,7 +39,7 @@ pub record SaneServices (nfm : ℕ) (v : Services) : Type 0 where
   pub four-ends : length (v .ends) ≡ 4
   pub four-standing : length (v .standing) ≡ 4
   pub failures : bytes (v .failures) ≡ true
-  pub ends : atMost 4000131069 (v .ends) ≡ true
+  pub ends : atMost highestEnd (v .ends) ≡ true
   pub off : eqb nfm 1 ≡ false → zeros (v .ends) ≡ true
   pub free : getD (v .standing) 2 0 ≡ 2 → getD (v .ends) 2 0 ≡ 0
   pub standing : (s : ℕ) → getD (v .standing) s 0 ≤ highest s
@@ -132,15 +132,15 @@ module _ (v : State) (h : valid v ≡ true) where
       let f = v .facts in
       let e = f .services .ends in
       let up = getD (f .services .standing) 2 0 in
-      let both = and-left (atMost 4000131069 e && (eqb (f .mode .nfm) 1 || zeros e)) _ (value 9) in
-      let free = and-right (atMost 4000131069 e && (eqb (f .mode .nfm) 1 || zeros e)) _ (value 9) in
+      let both = and-left (atMost highestEnd e && (eqb (f .mode .nfm) 1 || zeros e)) _ (value 9) in
+      let free = and-right (atMost highestEnd e && (eqb (f .mode .nfm) 1 || zeros e)) _ (value 9) in
       record {
         four-failures = shaped .failures;
         four-ends = shaped .ends;
         four-standing = shaped .standing;
         failures = value 8;
-        ends = and-left (atMost 4000131069 e) _ both;
-        off = or-else (eqb (f .mode .nfm) 1) (zeros e) (and-right (atMost 4000131069 e) _ both);
+        ends = and-left (atMost highestEnd e) _ both;
+        off = or-else (eqb (f .mode .nfm) 1) (zeros e) (and-right (atMost highestEnd e) _ both);
         free = λ x. eqb-true (getD e 2 0) 0 (or-else (not (eqb up 2)) (eqb (getD e 2 0) 0) free (rw (eq-eqb up 2 x)));
         standing = stands;
         mood = leb-true (f .services .mood) 3 (value 11);

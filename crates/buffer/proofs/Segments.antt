@@ -1,10 +1,10 @@
 -- Reading, writing and replacing in a list of segments. Assumes nothing.
-use mathlib.Core.Path.{_≡_, refl, sym, ap, _∙_, subst}
-use mathlib.Core.List.{List, [], _∷_, _++_, map, append-assoc, append-nil}
-use Prim.Native.Nat.{ℕ, zero, suc, _+_, _-_, _≤_, _<_}
-use native.Mathlib.Nat.{zero-add, suc-add, add-assoc, add-zero, not-suc-le-zero}
+use mathlib.Core.Path.{_≡_, refl, sym, ap, _∙_}
+use mathlib.Core.List.{List, [], _∷_, _++_, map, append-assoc}
+use Prim.Native.Nat.{ℕ, zero, suc, _+_, _≤_, _<_}
+use native.Mathlib.Nat.{zero-add, suc-add, add-assoc, not-suc-le-zero}
 use native.Mathlib.Omega.{arith}
-use lib.ListN.{length, getD, take, drop, set, replicate, length-append, length-take, length-drop, length-replicate, List·getD-append, List·getD-map, length-map, take-append-drop, drop-of-length-le}
+use lib.ListN.{length, getD, take, drop, set, length-append, length-take, length-drop, List·getD-append, List·getD-map, length-map, take-append-drop, drop-of-length-le}
 use lib.Seq.{take-append-le, drop-append-le, take-append-add, drop-append-add, getD-append-add, set-append-left, set-getD, drop-nil, drop-drop, drop-cons, getD-take, getD-drop}
 use Rattle.buffer.specs.Segments.{concat, off, part, paste}
 

@@ -1,12 +1,12 @@
 -- Which buffers are good: a test for each line of document 01's table, in its order. Assumes nothing.
-use Prim.Native.Nat.{ℕ, _+_, _*_, _-_, _^_}
-use mathlib.Core.Bool.{Bool, true, false, _&&_, _||_, not}
+use Prim.Native.Nat.{ℕ, _+_, _*_, _^_}
+use mathlib.Core.Bool.{Bool, true, _&&_, _||_, not}
 use mathlib.Core.List.{List, [], _∷_, map}
 use lib.Dec.{leb, ltb, eqb}
 use lib.ListN.{length, getD, take, drop}
 use Rattle.rules.specs.Calls.{Opening}
 use Rattle.rules.specs.Tables.{highestTime, ascending}
-use Rattle.rules.specs.Rules.{State, Facts, Mode, Services}
+use Rattle.rules.specs.Rules.{State, Services}
 use Rattle.buffer.specs.Places.{SIZE, LETTERS, VERSION, REMAINDER, COUNT, INTERVALS, LENGTHS, LISTS}
 use Rattle.buffer.specs.Segments.{part}
 use Rattle.buffer.specs.Layout.{letters, rows, row, factsOf}
@@ -63,9 +63,12 @@ abbrev pub rates : Opening → List ℕ
 rates o = o .LR1 ∷ o .LR2 ∷ o .LR3 ∷ []
 
 -- 35-38: at most 4,000,131,069; all 0 while NFM is 0, and service 2's while it is up
+abbrev pub highestEnd : ℕ
+highestEnd = 4000131069
+
 unfoldable pub ends-good : ℕ → Services → Bool
 ends-good nfm v =
-    atMost 4000131069 (v .ends)
+    atMost highestEnd (v .ends)
     && (eqb nfm 1 || zeros (v .ends))
     && (not (eqb (getD (v .standing) 2 0) 2) || eqb (getD (v .ends) 2 0) 0)
 

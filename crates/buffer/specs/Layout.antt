@@ -2,7 +2,6 @@
 use Prim.Native.Nat.{ℕ, _+_, _*_, _/_, _%_, _^_}
 use mathlib.Core.List.{List, [], _∷_, map}
 use lib.ListN.{length, getD}
-use Rattle.rules.specs.Calls.{Opening}
 use Rattle.rules.specs.Tables.{Kind, attach, activation, pdp, sms, reset}
 use Rattle.rules.specs.Rules.{State, Facts}
 use Rattle.buffer.specs.Segments.{concat, part, pad}

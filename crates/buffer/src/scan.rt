@@ -16,7 +16,7 @@ pub fn capped(p: &[u32], hi: u32) -> bool
     ok
 }
 
-// None is below the one before it, the first not below lo, and none is above hi.
+// None is below the one before it, the first not below lo, and none is above hi: of numbers that rise, where the last is not.
 pub fn rising(p: &[u32], lo: u32, hi: u32) -> bool
     ensures { λ r. ⌜ r ≡ ascending lo hi (now (p .entry)) ⌝ }
 {
@@ -25,9 +25,9 @@ pub fn rising(p: &[u32], lo: u32, hi: u32) -> bool
     let mut i = 0;
     while i < p.len() {
         let x = p[i];
-        ok = ok & (low <= x) & (x <= hi);
+        ok = ok & (low <= x);
         low = x;
         i += 1;
     }
-    ok
+    ok & ((p.len() == 0) | (low <= hi))
 }

@@ -2,7 +2,7 @@
 // end first, and then records of 40 bytes: which of the three, how long a buffer to judge, and six places with a new number for each. For
 // each record it writes 1 for a good buffer and 0 for a bad one. A place of 1,400 or more is passed over.
 ghost use mathlib.Core.Path.{_≡_};
-ghost use Prim.Native.Nat.{_+_, _*_, _≤_, _<_, _^_};
+ghost use Prim.Native.Nat.{_+_, _*_, _≤_, _<_};
 ghost use lib.ListN.{length};
 
 fn wide(x: u8) -> u32

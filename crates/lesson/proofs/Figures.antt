@@ -1,6 +1,6 @@
 -- C1 to C10 and the printed trace, as one theorem over one list. Assumes nothing.
 use mathlib.Core.Path.{_≡_, refl, sym, ap, _∙_, fun-ext}
-use mathlib.Core.List.{List, map}
+use mathlib.Core.List.{map}
 use Rattle.rules.specs.Calls.{C-PDP-1}
 use Rattle.rules.specs.Tables.{within, action, moodOn, waitFor, ofSix}
 use Rattle.rules.specs.Rules.{limits, blocks, inRange, stands, refusal, runs, wait, failed, verdict, ruling, points, moved, counted, asked, onGranted, onFailed, acted, switched, obeyed, changed, onto, adds, learn, fresh, known, answers}

@@ -1,17 +1,15 @@
 -- The four services' numbers and the six counters as lists: what a store changes. Assumes nothing.
-use Prim.Native.Nat.{ℕ, zero, suc, _+_, _-_, min, _≤_}
+use Prim.Native.Nat.{ℕ, zero, suc, _+_, min, _≤_}
 use mathlib.Core.Path.{_≡_, refl, sym, ap, _∙_, subst}
 use mathlib.Core.Bool.{Bool, true, false, cond, _&&_}
-use mathlib.Core.List.{List, [], _∷_}
 use lib.ListN.{getD, set}
 use lib.Dec.{leb, eqb}
-use borrow.Author.Tests.{eqb-true, eqb-false, leb-true, ne-eqb, le-leb}
+use borrow.Author.Tests.{eqb-true, eqb-false, leb-true, ne-eqb}
 use native.Mathlib.Omega.{arith}
 use Rattle.rules.specs.Calls.{Counter, C-BR-1, C-R-1, C-PDP-1, C-PDP-2, C-PDP-3, C-PDP-4}
 use Rattle.rules.specs.Tables.{four, six, ofSix, oneMore, raises}
-use Rattle.rules.specs.Rules.{idle, raised, counted, asked}
+use Rattle.rules.specs.Rules.{idle, counted, asked}
 use Rattle.rules.specs.Record.{standsAsked}
-use Rattle.rules.proofs.Checks.{and-left, and-right}
 
 pub of-four : (f : ℕ → ℕ) (s : ℕ) → s ≤ 3 → getD (four f) s 0 ≡ f s
 of-four f zero h = refl

@@ -1,10 +1,10 @@
 -- Leaks counted one by one, as the record has them, come to the difference of two divisions, as the rules take it. Assumes nothing.
 use Prim.Native.Nat.{ℕ, zero, suc, _+_, _-_, _*_, _/_, _%_, _≤_, _<_}
-use mathlib.Core.Path.{_≡_, refl, sym, ap, _∙_}
+use mathlib.Core.Path.{_≡_, refl, sym, ap}
 use mathlib.Core.Bool.{Bool, true, false, cond, _&&_}
 use lib.Dec.{ltb, eqb}
-use borrow.Author.Tests.{ltb-true, ltb-false, eqb-true, eqb-false, lt-ltb, le-ltb}
-use native.Mathlib.Nat.{div-add-mod', div-eq-of-lt-le, div-zero, zero-div, mod-lt, zero-mul, add-mul, one-mul, add-zero, add-suc}
+use borrow.Author.Tests.{ltb-true, ltb-false, eqb-true, eqb-false, lt-ltb}
+use native.Mathlib.Nat.{div-add-mod', div-eq-of-lt-le, div-zero, mod-lt, zero-mul, add-mul, one-mul, add-zero, add-suc}
 use native.Mathlib.Numerals.{add-one}
 use native.Mathlib.Omega.{arith}
 use Rattle.rules.specs.Record.{leakPoint, leaked}

@@ -1,22 +1,21 @@
 -- What the rules know after any calls is what the record of those calls tells, thing by thing. Assumes nothing.
-use Prim.Native.Nat.{ℕ, suc, _+_, _-_, _*_, min, _≤_}
+use Prim.Native.Nat.{ℕ, suc, _+_, _-_, min, _≤_}
 use mathlib.Core.Path.{_≡_, refl, sym, ap, _∙_}
 use mathlib.Core.Bool.{Bool, true, false, cond, _&&_}
 use mathlib.Core.List.{List, [], _∷_, _++_, append-nil}
-use lib.ListN.{getD, set}
-use lib.Dec.{leb, eqb}
-use borrow.Author.Tests.{eqb-true, eq-eqb}
+use lib.Dec.{eqb}
+use borrow.Author.Tests.{eqb-true}
 use native.Mathlib.Nat.{sub-self}
 use native.Mathlib.Omega.{arith}
 use Rattle.rules.specs.declared.Answer.{Answer}
 use Rattle.rules.specs.Calls.{Opening, Given, Counter, Event, ask, granted, silent, rejected, dropped, tick, Line, nfm, nfm-start, intervals, query, bad, Call, timed, typed, Entry, entry}
-use Rattle.rules.specs.Tables.{Kind, goes, waitFor, moodOn, four, six, rateOf, raises, oneMore}
+use Rattle.rules.specs.Tables.{Kind, waitFor, moodOn, four, six, rateOf}
 use Rattle.rules.specs.Record.{lastTime, nfmNow, startNow, intervalsNow, permitIn, permits, inARow, failures, backOffEnd, standsAsked, standing, mood, leaked, counter}
-use Rattle.rules.specs.Rules.{State, Facts, Mode, withServices, refusal, ruling, refused, wait, points, moved, idle, onGranted, onFailed, acted, switched, obeyed, changed, onto, adds, learn, fresh, known}
+use Rattle.rules.specs.Rules.{State, Facts, Mode, withServices, refusal, refused, wait, points, moved, idle, onGranted, onFailed, acted, switched, obeyed, changed, onto, adds, learn, fresh, known}
 use Rattle.rules.specs.Rules.{answers, counted}
 use Rattle.rules.specs.Told.{tells, ruled, entered, onward, ruledAll, told, AsTold}
 use Rattle.rules.proofs.Checks.{accepted, on-time, refused-adds, silent-wait, rejected-wait}
-use Rattle.rules.proofs.Groups.{of-four, of-six, four-path, four-cond, six-path, set-four, failures-more, ends-more, failures-cleared, asked-four, counted-six}
+use Rattle.rules.proofs.Groups.{of-four, of-six, four-cond, six-path, set-four, failures-more, ends-more, failures-cleared, asked-four, counted-six}
 use Rattle.rules.proofs.Leaks.{pointsTo, one-by-one}
 
 -- facts by their parts, and a path between two that agree on what was settled, on the time and on the mood

@@ -4,7 +4,7 @@ use Prim.Native.Nat.{ℕ, zero, suc, _+_, _-_, _*_, _%_, min}
 use mathlib.Core.Bool.{Bool, false, cond, _&&_}
 use mathlib.Core.List.{List, [], _∷_, _++_}
 use lib.Dec.{ltb, leb, eqb}
-use Rattle.rules.specs.Calls.{Given, Counter, Event, ask, granted, silent, rejected, dropped, tick, nfm, nfm-start, intervals, query, bad, Call, timed, typed, Entry}
+use Rattle.rules.specs.Calls.{Given, Counter, ask, granted, silent, rejected, dropped, tick, nfm, nfm-start, intervals, query, bad, Call, timed, typed, Entry}
 use Rattle.rules.specs.Tables.{Kind, goes, moodOn, oneMore, waitFor, rateOf, raises, ofSix}
 
 -- ---- The last time: that of the newest timed call, and before any the opening time

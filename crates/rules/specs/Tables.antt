@@ -1,5 +1,5 @@
 -- Document 01's tables and formulas that hang on nothing but their arguments. Assumes nothing.
-use Prim.Native.Nat.{ℕ, suc, _+_, _-_, _*_, _%_, min}
+use Prim.Native.Nat.{ℕ, suc, _+_, _-_, _%_, min}
 use mathlib.Core.Bool.{Bool, true, false, cond, not, _&&_, _||_}
 use mathlib.Core.List.{List, [], _∷_}
 use lib.ListN.{length, getD}

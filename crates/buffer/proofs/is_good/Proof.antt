@@ -1,6 +1,4 @@
 -- `buffer::is_good` meets its contract. Assumes nothing.
-use Prim.Native.Nat.{ℕ}
-use mathlib.Core.List.{List}
 use mathlib.Core.Path.{_∙_}
 use Rattle.buffer.proofs.Tests.{both, no-of, yes-of}
 use Rattle.buffer.proofs.Judged.{wrong-length, wrong-counts, few-intervals, short-lists, all-lines}

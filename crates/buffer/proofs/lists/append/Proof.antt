@@ -1,10 +1,10 @@
 -- `buffer::lists::append` meets its contract. With no room the loop's invariant is that the elements from 1 to i are one place down.
 -- Assumes nothing.
-use mathlib.Core.Path.{_≡_, refl, sym, ap, _∙_}
-use Prim.Native.Nat.{ℕ, suc, _≤_, _<_, _-_, _+_}
+use mathlib.Core.Path.{_≡_, refl, sym, _∙_}
+use Prim.Native.Nat.{_≤_, _-_}
 use borrow.Author.Needs.{needs}
 use native.Mathlib.Omega.{arith}
-use lib.ListN.{length, set, getD, length-set}
+use lib.ListN.{length, length-set}
 use Rattle.buffer.proofs.Listing.{shifted, shift-more, shift-end, appended-full, appended-room}
 use Rattle.buffer.proofs.lists.append.Statement.{statement}
 use Rattle.buffer.proofs.lists.append.Tie as tie

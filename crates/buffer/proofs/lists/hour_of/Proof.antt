@@ -1,11 +1,11 @@
+-- `buffer::lists::hour_of` meets its contract. Assumes nothing.
 use mathlib.Core.List.{List}
 use lib.Seq.{take-take}
 use Rattle.rules.specs.Tables.{inHour}
 use Rattle.buffer.specs.Segments.{part}
-use Prim.Native.Nat.{ℕ, _≤_, _<_, _+_, _*_, _-_}
-use mathlib.Core.Path.{_≡_, refl, sym, ap, _∙_}
-use mathlib.Core.Logic.{⊎-elim}
-use lib.ListN.{length, getD, take, drop, set, length-set}
+use Prim.Native.Nat.{ℕ, _+_, _*_, _-_}
+use mathlib.Core.Path.{_≡_, ap, _∙_}
+use lib.ListN.{getD, take, drop}
 use native.Mathlib.Omega.{arith}
 use borrow.Author.Needs.{needs}
 use Rattle.buffer.proofs.lists.hour_of.Statement.{statement}

@@ -1,12 +1,11 @@
 -- `buffer::lists::in_hour` meets its contract.
-use mathlib.Core.Path.{_≡_, refl, sym, ap, _∙_}
+use mathlib.Core.Path.{_≡_}
 use mathlib.Core.Bool.{true, false}
 use mathlib.Core.Logic.{⊎-elim}
-use Prim.Native.Nat.{ℕ, suc, _≤_, _<_, _-_, _+_}
+use Prim.Native.Nat.{ℕ, _≤_, _-_, _+_}
 use native.Mathlib.Nat.{zero-add}
-use borrow.Author.Needs.{needs}
 use native.Mathlib.Omega.{arith}
-use lib.ListN.{length, take, getD}
+use lib.ListN.{take, getD}
 use lib.Seq.{slice}
 use Rattle.rules.specs.Tables.{inHour}
 use Rattle.buffer.proofs.Listing.{hour-turn, hour-none, hour-hit, hour-old, hour-later}
