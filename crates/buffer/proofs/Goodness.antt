@@ -11,10 +11,10 @@ use lib.Arith.{digits-div, digits-mod}
 use lib.ListN.{length, getD, take, drop, replicate, length-take, length-drop, take-append-drop, List·getD-map}
 use lib.Seq.{take-take, take-all, drop-append-seam}
 use Rattle.rules.specs.Rules.{State, Facts}
-use Rattle.buffer.specs.Places.{SIZE, LETTERS, VERSION, REMAINDER, COUNT, INTERVALS, LENGTHS, LISTS}
+use Rattle.buffer.specs.Places.{SIZE, REMAINDER, COUNT, INTERVALS, LENGTHS, LISTS}
 use Rattle.buffer.specs.Segments.{concat, part, pad}
-use Rattle.buffer.specs.Layout.{letters, widths, segments, spread, lay, rows, row, factsOf, view}
-use Rattle.buffer.specs.Good.{every, atMost, zeros, bytes, unused, count-good, imsi-good, intervals-good, list-good, row-good, lines, good, fits, values, valid}
+use Rattle.buffer.specs.Layout.{widths, segments, spread, lay, rows, row, factsOf, view}
+use Rattle.buffer.specs.Good.{every, atMost, zeros, bytes, unused, Shape, count-good, imsi-good, intervals-good, list-good, row-good, lines, good, fits, values, valid}
 use Rattle.buffer.proofs.Tests.{and-left, and-right, pick, passed}
 use Rattle.buffer.proofs.Segments.{pieces, concat-pieces, spelled, spell, length-part, part-at}
 use Rattle.buffer.proofs.Laying.{Shaped, length-pad, length-lay, get, cut, places-at, count-at, view-lay}
@@ -54,17 +54,7 @@ unused-pad : (w : ℕ) (l : List ℕ) → zeros (unused (length l) (pad w l)) �
 unfolding pad
 unused-pad w l = rw (drop-append-seam l (replicate (w - length l) 0)) (zeros-of (w - length l))
 
--- ---- The shape of a buffer: what it must have besides its values
-
-pub record Shape (b : List ℕ) : Type 0 where
-  pub long : length b ≡ SIZE
-  pub lettered : getD b LETTERS 0 ≡ letters
-  pub version : getD b VERSION 0 ≡ 1
-  pub low : getD b REMAINDER 0 < 2 ^ 32
-  pub few : getD b COUNT 0 ≤ 10
-  pub spare : zeros (unused (getD b COUNT 0) (part b INTERVALS 10)) ≡ true
-  pub short : (k : ℕ) → k < 5 → getD b (LENGTHS + k) 0 ≤ 255
-  pub clear : (k : ℕ) → k < 5 → zeros (unused (getD b (LENGTHS + k) 0) (part b (LISTS + 255 * k) 255)) ≡ true
+-- ---- A buffer that has the shape
 
 module _ (b : List ℕ) (h : Shape b) where
   -- n numbers in use, in a part of w places

@@ -8,7 +8,7 @@ use lib.ListN.{length, getD, set, length-set}
 use Rattle.rules.specs.Rules.{Facts, Mode, newest}
 use Rattle.buffer.specs.Places.{SIZE, LAST, NFM, START, FAILURES, ENDS, STANDING, MOOD, COUNTERS}
 use Rattle.buffer.specs.Layout.{segments, spread, rows, factsOf, view}
-use Rattle.buffer.specs.Good.{good}
+use Rattle.buffer.specs.Good.{Shape, good}
 use Rattle.buffer.specs.Lists.{Listed, permitted}
 use Rattle.buffer.proofs.Laying.{Shaped, get, put, length-lay}
 use Rattle.buffer.proofs.Goodness.{shape-lay, shaped, lay-view, good-shape}
@@ -31,8 +31,11 @@ pub record Laid (b : List ℕ) (f : Facts) (rs : List (List ℕ)) : Type 0 where
   pub shaped : Shaped f rs
   pub is : b ≡ spread f rs
 
+pub laid-shaped : (b : List ℕ) → Shape b → Laid b (factsOf b) (rows (view b .lists))
+laid-shaped b s = record { shaped = shaped b s; is = sym (lay-view b s) }
+
 pub laid-good : (b : List ℕ) → good b ≡ true → Laid b (factsOf b) (rows (view b .lists))
-laid-good b h = let s = good-shape b h in record { shaped = shaped b s; is = sym (lay-view b s) }
+laid-good b h = laid-shaped b (good-shape b h)
 
 module _ {b : List ℕ} {f : Facts} {rs : List (List ℕ)} (l : Laid b f rs) where
   pub laid-as : {x : List ℕ} → x ≡ b → Laid x f rs
@@ -41,8 +44,11 @@ module _ {b : List ℕ} {f : Facts} {rs : List (List ℕ)} (l : Laid b f rs) whe
   pub laid-long : length b ≡ SIZE
   laid-long = ap length (l .is) ∙ length-lay f rs (l .shaped)
 
+  pub laid-shape : Shape b
+  laid-shape = rw (l .is) (shape-lay f rs (l .shaped))
+
   pub laid-listed : (k : ℕ) → k < 5 → Listed b k
-  laid-listed k h = row-listed b (rw (l .is) (shape-lay f rs (l .shaped))) k h
+  laid-listed k h = row-listed b laid-shape k h
 
   -- reads
   pub counter-at : (i : ℕ) → i < 6 → getD b (COUNTERS + i) 0 ≡ getD (f .counters) i 0

@@ -16,10 +16,11 @@ use Rattle.rules.specs.Rules.{Facts, newest}
 use Rattle.buffer.specs.Segments.{pad, part}
 use Rattle.buffer.specs.Layout.{spread}
 use Rattle.buffer.specs.Places.{LENGTHS, LISTS}
+use Rattle.buffer.specs.Good.{Shape}
 use Rattle.buffer.specs.Lists.{Holds, Listed, appended, permitted}
 use Rattle.buffer.proofs.Segments.{length-part}
 use Rattle.buffer.proofs.Laying.{Shaped, length-pad, take-pad, places-at, count-at, set-row, shaped-row}
-use Rattle.buffer.proofs.Goodness.{Shape, zeros-replicate}
+use Rattle.buffer.proofs.Goodness.{zeros-replicate}
 
 -- p with its elements from 1 to i moved one down
 abbrev pub shifted : List ℕ → ℕ → List ℕ

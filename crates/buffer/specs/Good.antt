@@ -1,5 +1,6 @@
 -- Which buffers are good: a test for each line of document 01's table, in its order. Assumes nothing.
-use Prim.Native.Nat.{ℕ, _+_, _*_, _^_}
+use Prim.Native.Nat.{ℕ, _+_, _*_, _^_, _≤_, _<_}
+use mathlib.Core.Path.{_≡_}
 use mathlib.Core.Bool.{Bool, true, _&&_, _||_, not}
 use mathlib.Core.List.{List, [], _∷_, map}
 use lib.Dec.{leb, ltb, eqb}
@@ -128,6 +129,18 @@ good b = every (lines b)
 -- n of the lines, from line i on
 abbrev pub some-lines : List ℕ → ℕ → ℕ → Bool
 some-lines b i n = every (take n (drop i (lines b)))
+
+-- what a good buffer has besides its values
+
+pub record Shape (b : List ℕ) : Type 0 where
+  pub long : length b ≡ SIZE
+  pub lettered : getD b LETTERS 0 ≡ letters
+  pub version : getD b VERSION 0 ≡ 1
+  pub low : getD b REMAINDER 0 < 2 ^ 32
+  pub few : getD b COUNT 0 ≤ 10
+  pub spare : zeros (unused (getD b COUNT 0) (part b INTERVALS 10)) ≡ true
+  pub short : (k : ℕ) → k < 5 → getD b (LENGTHS + k) 0 ≤ 255
+  pub clear : (k : ℕ) → k < 5 → zeros (unused (getD b (LENGTHS + k) 0) (part b (LISTS + 255 * k) 255)) ≡ true
 
 -- ---- A state that a buffer can hold: the same of its values, and each list of numbers as long as its places
 

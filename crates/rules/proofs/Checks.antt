@@ -60,10 +60,14 @@ permit-passed w c e = go (eqb (refusal (w .facts) c) 0) refl e
     go true p e = eqb-true n 0 p
     go false p e = e
 
--- a call that passed check 3 is neither before the last time nor after the highest
+-- a call that passed check 2 is in range, and one that passed check 3 is neither before the last time nor after the highest
 passed : (ok : Bool) (n rest : ℕ) → eqb n 0 ≡ false → check ok n rest ≡ 0 → (ok ≡ true) × (rest ≡ 0)
 passed true n rest z e = (refl, e)
 passed false n rest z e = absurd (eqb-false n 0 z e)
+
+pub in-range : (f : Facts) (t : ℕ) (e : Event) → refusal f (timed t e) ≡ 0 → inRange e ≡ true
+unfolding refusal
+in-range f t e p = passed (inRange e) 2 (check (timely f t) 3 (check (stands f e) 4 0)) refl p .0
 
 is-timely : (f : Facts) (t : ℕ) (e : Event) → refusal f (timed t e) ≡ 0 → timely f t ≡ true
 unfolding refusal

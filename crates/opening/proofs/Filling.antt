@@ -1,0 +1,79 @@
+-- A blank buffer that is filled part by part is a new state laid out. Assumes nothing.
+use mathlib.Core.Path.{_≡_, refl, sym, ap, _∙_}
+use mathlib.Core.List.{List, [], _∷_, _++_, map}
+use Prim.Native.Nat.{ℕ, _+_, _/_, _%_, _^_, _≤_, _<_}
+use native.Mathlib.Omega.{arith}
+use lib.Dec.{lit<, lit≤}
+use lib.ListN.{length, getD, take, set, replicate, length-replicate, replicate-append-replicate}
+use lib.Seq.{length-take-le}
+use Rattle.rules.specs.Rules.{fresh}
+use Rattle.buffer.specs.Places.{SIZE, LETTERS, INTERVALS, PARAMETERS, HOUSE, RATES, COUNTERS}
+use Rattle.buffer.specs.Segments.{concat, off, pad, paste}
+use Rattle.buffer.specs.Layout.{letters, segments, spread, lay}
+use Rattle.buffer.proofs.Segments.{spell, paste-seg, width-set}
+use Rattle.buffer.proofs.Laying.{paste-whole, length-pad}
+use Rattle.opening.specs.Open.{Order, givenBy}
+
+-- the parts as they are filled: places 0-9, intervals, parameters, house limits, rates, 31-43, counters, lengths, lists
+abbrev parts : List ℕ
+parts = 10 ∷ 10 ∷ 6 ∷ 2 ∷ 3 ∷ 13 ∷ 6 ∷ 5 ∷ 1275 ∷ []
+
+record Cut (b : List ℕ) (segs : List (List ℕ)) : Type 0 where
+  wide : map length segs ≡ parts
+  is : b ≡ concat segs
+
+abbrev zeroed : List ℕ → List (List ℕ)
+zeroed ws = map (λ w. replicate w 0) ws
+
+zeroed-wide : (ws : List ℕ) → map length (zeroed ws) ≡ ws
+zeroed-wide [] = refl
+zeroed-wide (w ∷ ws) = λ i. length-replicate {A = ℕ} w 0 i ∷ zeroed-wide ws i
+
+zeroed-is : (ws : List ℕ) → concat (zeroed ws) ≡ replicate (off ws (length ws)) 0
+unfolding concat
+zeroed-is [] = refl
+zeroed-is (w ∷ ws) = ap (λ (l : List ℕ). replicate w 0 ++ l) (zeroed-is ws) ∙ replicate-append-replicate w (off ws (length ws)) 0
+
+blank-cut : {b : List ℕ} → b ≡ replicate SIZE 0 → Cut b (zeroed parts)
+blank-cut e = record { wide = zeroed-wide parts; is = e ∙ sym (zeroed-is parts) }
+
+-- part k is replaced by y
+module _ {b : List ℕ} {segs : List (List ℕ)} (c : Cut b segs) (k : ℕ) (y : List ℕ) (nine : k < 9) (h : length y ≡ getD parts k 0) (short : length (getD segs k []) ≤ length y) where
+  whole : {x : List ℕ} → x ≡ paste b (off parts k + 0) y → Cut x (set segs k y)
+  whole e = record {
+    wide = width-set segs parts (c .wide) k y h;
+    is =
+        e
+        ∙ ap (λ (l : List ℕ). paste l (off parts k + 0) y) (c .is)
+        ∙ paste-seg segs parts (c .wide) k 0 y (omega arith) nine
+        ∙ ap (λ (l : List ℕ). concat (set segs k l)) (paste-whole (getD segs k []) y short);
+  }
+
+rows-zero : replicate 1275 0 ≡ concat (map (pad 255) ([] ∷ [] ∷ [] ∷ [] ∷ [] ∷ []))
+unfolding pad
+rows-zero = sym (zeroed-is (255 ∷ 255 ∷ 255 ∷ 255 ∷ 255 ∷ []))
+
+module _ (o : Order) (few : length (o .intervals) ≤ 10) (p : length (o .parameters) ≡ 32) (r : length (o .rates) ≡ 6) (k : length (o .counters) ≡ 32) where
+  abbrev head : List ℕ
+  head = letters ∷ 1 ∷ o .time ∷ o .time ∷ o .imsi / 2 ^ 32 ∷ o .imsi % 2 ^ 32 ∷ o .nfm ∷ 0 ∷ o .rpm ∷ length (o .intervals) ∷ []
+
+  pub filled : {b0 b1 b2 b3 b4 : List ℕ} → b0 ≡ replicate SIZE 0
+      → b1 ≡ paste b0 LETTERS head
+      → b2 ≡ paste b1 INTERVALS (pad 10 (o .intervals))
+      → b3 ≡ paste (paste (paste b2 PARAMETERS (take 6 (o .parameters))) HOUSE (o .A1 ∷ o .S1 ∷ [])) RATES (take 3 (o .rates))
+      → b4 ≡ paste b3 COUNTERS (take 6 (o .counters))
+      → b4 ≡ lay (fresh (givenBy o))
+  unfolding concat spread segments givenBy fresh
+  filled e0 e1 e2 e3 e4 =
+      let il = length-pad 10 (o .intervals) few in
+      let pl = length-take-le 6 (o .parameters) (omega arith) in
+      let rl = length-take-le 3 (o .rates) (omega arith) in
+      let kl = length-take-le 6 (o .counters) (omega arith) in
+      let c1 = whole (blank-cut e0) 0 head (lit< tt) refl (lit≤ tt) e1 in
+      let c2 = whole c1 1 (pad 10 (o .intervals)) (lit< tt) il (omega arith) e2 in
+      let c3 = whole c2 2 (take 6 (o .parameters)) (lit< tt) pl (omega arith) refl in
+      let c4 = whole c3 3 (o .A1 ∷ o .S1 ∷ []) (lit< tt) refl (lit≤ tt) refl in
+      let c5 = whole c4 4 (take 3 (o .rates)) (lit< tt) rl (omega arith) e3 in
+      let c6 = whole c5 6 (take 6 (o .counters)) (lit< tt) kl (omega arith) e4 in
+      c6 .is
+      ∙ (λ i. concat (head ∷ pad 10 (o .intervals) ∷ spell (o .parameters) 0 6 (omega arith) i ∷ (o .A1 ∷ o .S1 ∷ []) ∷ spell (o .rates) 0 3 (omega arith) i ∷ replicate 13 0 ∷ spell (o .counters) 0 6 (omega arith) i ∷ replicate 5 0 ∷ rows-zero i ∷ []))

@@ -1,0 +1,81 @@
+-- What opening promises: its answer and all 1,330 places, whatever it is given. Assumes nothing.
+use mathlib.Core.Path.{_≡_}
+use mathlib.Core.Bool.{Bool, cond, _&&_}
+use mathlib.Core.List.{List}
+use Prim.Native.Nat.{ℕ}
+use lib.Dec.{leb, eqb}
+use lib.ListN.{length, getD}
+use Rattle.rules.specs.declared.Answer.{Answer}
+use Rattle.rules.specs.Calls.{Given, answer}
+use Rattle.rules.specs.Tables.{highestTime, scheduled}
+use Rattle.rules.specs.Rules.{fresh}
+use Rattle.buffer.specs.Places.{SIZE}
+use Rattle.buffer.specs.Layout.{lay}
+use Rattle.card.specs.Card.{parameterFile, rateFile, counterFile}
+
+-- what opening is given: the time, IMSI, intervals, NFM, RPM, A1, S1 and the three files
+pub record Order : Type 0 where
+  pub time : ℕ
+  pub imsi : ℕ
+  pub intervals : List ℕ
+  pub nfm : ℕ
+  pub rpm : ℕ
+  pub A1 : ℕ
+  pub S1 : ℕ
+  pub parameters : List ℕ
+  pub rates : List ℕ
+  pub counters : List ℕ
+
+abbrev pub order : (time imsi : ℕ) → List ℕ → (nfm rpm A1 S1 : ℕ) → (parameters rates counters : List ℕ) → Order
+order t i l n r a s p q k = record { time = t; imsi = i; intervals = l; nfm = n; rpm = r; A1 = a; S1 = s; parameters = p; rates = q; counters = k }
+
+-- the settings are in range
+unfoldable pub settings : Order → Bool
+settings o =
+    leb (o .imsi) 999999999999999 && scheduled (o .intervals) && leb (o .nfm) 1 && leb (o .rpm) 1 && leb (o .A1) 255 && leb (o .S1) 255
+
+unfoldable pub files : Order → Bool
+files o = parameterFile (o .parameters) && rateFile (o .rates) && counterFile (o .counters)
+
+-- the first check that fails: 1 length of the state, 2 settings and files, 3 time; 0 if none
+unfoldable pub openNumber : List ℕ → Order → ℕ
+openNumber b o = cond (eqb (length b) SIZE) (cond (settings o && files o) (cond (leb (o .time) highestTime) 0 3) 2) 1
+
+-- what the record since this opening begins with: bytes 1-6 of the parameters, 1-3 of the leak rates, 1-6 of the counters
+unfoldable pub givenBy : Order → Given
+givenBy o =
+    let p = o .parameters in
+    let r = o .rates in
+    record {
+      opening = record {
+        opened = o .time;
+        imsi = o .imsi;
+        rpm = o .rpm;
+        N1 = getD p 0 0;
+        T1 = getD p 1 0;
+        F1 = getD p 2 0;
+        F2 = getD p 3 0;
+        F3 = getD p 4 0;
+        F4 = getD p 5 0;
+        A1 = o .A1;
+        S1 = o .S1;
+        LR1 = getD r 0 0;
+        LR2 = getD r 1 0;
+        LR3 = getD r 2 0;
+      };
+      nfm = o .nfm;
+      intervals = o .intervals;
+      counters = o .counters;
+    }
+
+abbrev pub openAnswer : List ℕ → Order → Answer
+openAnswer b o = answer (openNumber b o) 0
+
+-- a refused opening changes nothing; any other lays out a new state
+unfoldable pub openAfter : List ℕ → Order → List ℕ
+openAfter b o = cond (eqb (openNumber b o) 0) (lay (fresh (givenBy o))) b
+
+-- opening the buffer b by o gives r and leaves x
+pub record OpenSays (b : List ℕ) (o : Order) (r : Answer) (x : List ℕ) : Type 0 where
+  pub answered : r ≡ openAnswer b o
+  pub left : x ≡ openAfter b o

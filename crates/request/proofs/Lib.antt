@@ -1,0 +1,3 @@
+pub mod Acting
+pub mod Deciding
+pub mod Requests

@@ -1,0 +1,34 @@
+-- What the parts of a request do to the places. Assumes nothing.
+use Prim.Native.Nat.{ℕ, _+_, _-_}
+use mathlib.Core.Bool.{cond, _&&_}
+use mathlib.Core.List.{List}
+use lib.Dec.{leb, eqb}
+use lib.ListN.{getD, set}
+use Rattle.rules.specs.Tables.{oneMore}
+use Rattle.rules.specs.Rules.{Facts}
+use Rattle.buffer.specs.Places.{STANDING, COUNTERS}
+use Rattle.buffer.specs.Lists.{permitted}
+
+-- seconds left of the back-off that holds request q, and 0 where none runs
+abbrev pub waiting : Facts → ℕ → ℕ → ℕ
+waiting f t q = cond (leb q 3) (getD (f .services .ends) q 0 - t) 0
+
+-- counter i after a block
+abbrev pub bumped : List ℕ → ℕ → List ℕ
+bumped b i = set b (COUNTERS + i) (oneMore (getD b (COUNTERS + i) 0))
+
+-- the counters after answer n
+unfoldable pub tallied : List ℕ → ℕ → List ℕ
+tallied b n = cond (eqb n 11) (bumped b 0) (cond (leb 13 n && leb n 16) (bumped b (n - 11)) b)
+
+-- the standing after a permit of request q
+unfoldable pub stood : List ℕ → ℕ → List ℕ
+stood b q =
+    cond (leb q 3) (set b (STANDING + q) 1)
+    (cond (eqb q 4) (set b (STANDING + 2) 0) (set (set (set (set b STANDING 0) (STANDING + 1) 0) (STANDING + 2) 0) (STANDING + 3) 0))
+
+-- the lists after a permit of request q at t: 0 attach, 1 activation, 2 PDP, 3 SMS, 4 reset
+unfoldable pub listed : List ℕ → ℕ → ℕ → List ℕ
+listed b q t =
+    cond (leb q 1) (permitted b 0 t)
+    (cond (eqb q 2) (permitted (permitted b 1 t) 2 t) (cond (eqb q 3) (permitted b 3 t) (cond (eqb q 4) (permitted b 2 t) (permitted b 4 t))))

@@ -1,0 +1,47 @@
+-- `saving::save` meets its contract. Assumes nothing.
+use borrow.Author.Tests.{eq-eqb, ne-eqb}
+use Rattle.buffer.proofs.Tests.{no-of, yes-of}
+use Rattle.buffer.proofs.Goodness.{good-shape}
+use Rattle.saving.proofs.Saved.{says-room, says-bad, says-written}
+use borrow.Author.Needs.{needs}
+use Rattle.saving.proofs.save.Statement.{statement}
+use Rattle.saving.proofs.save.Tie as tie
+
+returns : tie.Need-returns
+returns c = says-room (ne-eqb _ _ (c .if1 .taken))
+
+is-good-requires : tie.Need-is-good-requires
+is-good-requires c κs = search needs
+
+same-length : tie.Need-same-length
+same-length c = search needs
+
+returns-2 : tie.Need-returns-2
+returns-2 c = says-bad (no-of (c .before .is-good .ensures) (c .if2 .taken))
+
+save-in-requires : tie.Need-save-in-requires
+save-in-requires c κs =
+    let g = yes-of (c .before .before .before .is-good .ensures) (c .before .before .if2 .left) in
+    (good-shape (c .before .before .before .before .before .before .before .before .args .s .now) g .long, (g, c .before .before .before .before .before .if1 .left))
+
+same-length-2 : tie.Need-same-length-2
+same-length-2 c = search needs
+
+same-length-3 : tie.Need-same-length-3
+same-length-3 c = search needs
+
+returns-3 : tie.Need-returns-3
+returns-3 c = says-written (yes-of (c .before .before .before .before .before .before .is-good .ensures) (c .before .before .before .before .before .if2 .left)) (eq-eqb _ _ (c .before .before .before .before .before .before .before .before .if1 .left)) (c .before .before .save-in .ensures)
+
+pub save-spec : {M : Type 1} → statement M
+save-spec =
+    tie.close
+    (tie.spec
+    returns
+    is-good-requires
+    same-length
+    returns-2
+    save-in-requires
+    same-length-2
+    same-length-3
+    returns-3)
