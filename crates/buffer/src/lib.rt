@@ -6,7 +6,7 @@ pub mod fields;
 mod lines;
 pub mod lists;
 pub mod places;
-mod scan;
+pub mod scan;
 
 ghost use mathlib.Core.Path.{_≡_};
 ghost use Rattle.buffer.specs.Good.{good};

@@ -59,7 +59,7 @@ module _ (b : List ℕ) (g : good b ≡ true) (c : Call) (a : Answer) (e : rulin
   pub moves : refused a ≡ false → ((k : Kind) → adds k c a ≡ []) → lay (step (view b) c) ≡ spread (changed c a (factsOf b)) (rows (view b .lists))
   moves h n = goes-on h ∙ (λ i. spread (changed c a (factsOf b)) (rows (λ k. kept-row k (n k) i)))
 
-  after-is : callAfter b c ≡ lay (step (view b) c)
+  pub after-is : callAfter b c ≡ lay (step (view b) c)
   unfolding callAfter
   after-is = rw (g, e) (go (refused a) refl)
     where
@@ -67,7 +67,7 @@ module _ (b : List ℕ) (g : good b ≡ true) (c : Call) (a : Answer) (e : rulin
       go true h = sym (stays h)
       go false h = refl
 
-  answer-is : callAnswer b c ≡ a
+  pub answer-is : callAnswer b c ≡ a
   unfolding callAnswer
   answer-is = rw g e
 

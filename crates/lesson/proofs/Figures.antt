@@ -1,22 +1,112 @@
--- C1 to C10 and the printed trace, as one theorem over one list. Assumes nothing.
+-- C1 to C10 and the printed trace, as one theorem over one list: on the buffer, and over the record. Assumes nothing.
 use mathlib.Core.Path.{_≡_, refl, sym, ap, _∙_, fun-ext}
-use mathlib.Core.List.{map}
-use Rattle.rules.specs.Calls.{C-PDP-1}
-use Rattle.rules.specs.Tables.{within, action, moodOn, waitFor, ofSix}
-use Rattle.rules.specs.Rules.{limits, blocks, inRange, stands, refusal, runs, wait, failed, verdict, ruling, points, moved, counted, asked, onGranted, onFailed, acted, switched, obeyed, changed, onto, adds, learn, fresh, known, answers}
+use mathlib.Core.Bool.{true}
+use mathlib.Core.List.{List, [], _∷_, map}
+use Prim.Native.Nat.{ℕ}
+use lib.ListN.{getD}
+use Rattle.rules.specs.declared.Answer.{Answer}
+use Rattle.rules.specs.Calls.{C-PDP-1, Call}
+use Rattle.rules.specs.Tables.{within, action, moodOn, waitFor, ascending, ofSix}
+use Rattle.rules.specs.Record.{counter}
+use Rattle.rules.specs.Rules.{State, limits, blocks, inRange, stands, refusal, runs, wait, failed, verdict, ruling, points, moved, counted, asked, onGranted, onFailed, acted, switched, obeyed, changed, onto, adds, learn, fresh, known, answers, short, step, held, heldAnswers}
+use Rattle.rules.specs.Told.{tells, told}
 use Rattle.rules.proofs.RecordTells.{answers-told, as-told}
-use Rattle.lesson.specs.Cases.{Case, Seen, seen, cases, expected}
+use Rattle.rules.proofs.Demand3.{held-told, held-answers}
+use Rattle.buffer.specs.Layout.{lay, factsOf}
+use Rattle.buffer.specs.Good.{atMost, valid}
+use Rattle.buffer.proofs.Goodness.{view-lay-valid}
+use Rattle.buffer.proofs.Keep.{keep}
+use Rattle.card.specs.Card.{blank, file, written}
+use Rattle.clock.specs.Call.{callAfter}
+use Rattle.opening.specs.Open.{Order, settings, files, openNumber, givenBy, openAfter}
+use Rattle.opening.proofs.Opened.{opened-bytes, opened-valid}
+use Rattle.gate.specs.History.{Typed}
+use Rattle.gate.proofs.Demand3.{answer-lay, after-lay}
+use Rattle.lesson.specs.Cases.{Case, Seen, answersOn, leftBy, empty, seenOnBuffer, seenOverRecord, cases, expected}
+
+-- ---- Over the record
 
 -- the same, run from state to state: this is what computes
 abbrev ran : Case → Seen
-ran c = record { given = answers (fresh (c .from)) (c .calls); pdp1 = ofSix (known (fresh (c .from)) (c .calls) .facts .counters) C-PDP-1 }
+ran c = let g = givenBy (c .from) in record { given = answers (fresh g) (c .calls); pdp1 = ofSix (known (fresh g) (c .calls) .facts .counters) C-PDP-1 }
 
-seen-ran : (c : Case) → seen c ≡ ran c
-seen-ran c i = record { given = sym (answers-told (c .from) (c .calls)) i; pdp1 = sym (as-told (c .from) (c .calls) .counters C-PDP-1) i }
+seen-ran : (c : Case) → seenOverRecord c ≡ ran c
+seen-ran c i = let g = givenBy (c .from) in record { given = sym (answers-told g (c .calls)) i; pdp1 = sym (as-told g (c .calls) .counters C-PDP-1) i }
 
 computed : map ran cases ≡ expected
-unfolding within action moodOn waitFor limits blocks inRange stands refusal runs wait failed verdict ruling points moved counted asked onGranted onFailed acted switched obeyed changed onto adds learn fresh
+unfolding givenBy within action moodOn waitFor limits blocks inRange stands refusal runs wait failed verdict ruling points moved counted asked onGranted onFailed acted switched obeyed changed onto adds learn fresh
 computed = refl
 
-pub figures : map seen cases ≡ expected
-figures = ap (λ (f : Case → Seen). map f cases) (fun-ext seen-ran) ∙ computed
+pub figures-over-the-record : map seenOverRecord cases ≡ expected
+figures-over-the-record = ap (λ (f : Case → Seen). map f cases) (fun-ext seen-ran) ∙ computed
+
+-- ---- On the buffer
+
+answers-lay : (v : State) → valid v ≡ true → (cs : List Call) → answersOn (lay v) cs ≡ heldAnswers v cs
+answers-lay v h [] = refl
+answers-lay v h (c ∷ cs) =
+    ap (λ (a : Answer). a ∷ answersOn (callAfter (lay v) c) cs) (answer-lay v h c)
+    ∙ ap (λ (b : List ℕ). ruling v c ∷ answersOn b cs) (after-lay v h c)
+    ∙ ap (λ (l : List Answer). ruling v c ∷ l) (answers-lay (step v c) (keep v h c) cs)
+
+left-lay : (v : State) → valid v ≡ true → (cs : List Call) → leftBy (lay v) cs ≡ lay (held v cs)
+left-lay v h [] = refl
+left-lay v h (c ∷ cs) = ap (λ (b : List ℕ). leftBy b cs) (after-lay v h c) ∙ left-lay (step v c) (keep v h c) cs
+
+held-valid : (v : State) → valid v ≡ true → (cs : List Call) → valid (held v cs) ≡ true
+held-valid v h [] = h
+held-valid v h (c ∷ cs) = held-valid (step v c) (keep v h c) cs
+
+-- an opening that is accepted, of files that are bytes
+record Fine (o : Order) : Type 0 where
+  typed : Typed o
+  accepted : openNumber empty o ≡ 0
+
+module _ (c : Case) (f : Fine (c .from)) where
+  ok : valid (fresh (givenBy (c .from))) ≡ true
+  ok = opened-valid empty (c .from) (f .accepted) (f .typed .parameters) (f .typed .rates) (f .typed .counters)
+
+  opened : openAfter empty (c .from) ≡ lay (fresh (givenBy (c .from)))
+  unfolding openAfter
+  opened = rw (f .accepted)
+
+  counters-same : (v : State) → valid v ≡ true → getD (written (factsOf (lay v) .counters)) 2 0 ≡ getD (v .facts .counters) 2 0
+  unfolding written
+  counters-same v h = ap (λ (w : State). getD (w .facts .counters) 2 0) (view-lay-valid v h)
+
+  record-same : getD (held (fresh (givenBy (c .from))) (c .calls) .facts .counters) 2 0 ≡ counter (givenBy (c .from)) C-PDP-1 (told (givenBy (c .from)) (c .calls))
+  unfolding short tells
+  record-same =
+      ap (λ (w : State). getD (w .facts .counters) 2 0)
+      (held-told (givenBy (c .from)) (opened-bytes empty (c .from) (f .accepted) (f .typed .parameters) (f .typed .rates) (f .typed .counters)) (c .calls))
+
+  same : seenOnBuffer c ≡ seenOverRecord c
+  same =
+      let g = givenBy (c .from) in
+      λ i. record {
+        given =
+            (ap (λ (b : List ℕ). answersOn b (c .calls)) opened
+            ∙ answers-lay (fresh g) ok (c .calls)
+            ∙ held-answers g (opened-bytes empty (c .from) (f .accepted) (f .typed .parameters) (f .typed .rates) (f .typed .counters)) (c .calls)) i;
+        pdp1 =
+            (ap (λ (b : List ℕ). getD (written (factsOf (leftBy b (c .calls)) .counters)) 2 0) opened
+            ∙ ap (λ (b : List ℕ). getD (written (factsOf b .counters)) 2 0) (left-lay (fresh g) ok (c .calls))
+            ∙ counters-same (held (fresh g) (c .calls)) (held-valid (fresh g) ok (c .calls))
+            ∙ record-same) i;
+      }
+
+abbrev AllFine : List Case → Type 0
+AllFine [] = Unit {0}
+AllFine (c ∷ cs) = Fine (c .from) × AllFine cs
+
+all-same : (cs : List Case) → AllFine cs → map seenOnBuffer cs ≡ map seenOverRecord cs
+all-same [] h = refl
+all-same (c ∷ cs) h = λ i. same c (h .0) i ∷ all-same cs (h .1) i
+
+all-fine : AllFine cases
+unfolding atMost openNumber settings files file blank ascending
+all-fine = (record { typed = record { parameters = refl; rates = refl; counters = refl }; accepted = refl }, (record { typed = record { parameters = refl; rates = refl; counters = refl }; accepted = refl }, (record { typed = record { parameters = refl; rates = refl; counters = refl }; accepted = refl }, (record { typed = record { parameters = refl; rates = refl; counters = refl }; accepted = refl }, (record { typed = record { parameters = refl; rates = refl; counters = refl }; accepted = refl }, (record { typed = record { parameters = refl; rates = refl; counters = refl }; accepted = refl }, (record { typed = record { parameters = refl; rates = refl; counters = refl }; accepted = refl }, (record { typed = record { parameters = refl; rates = refl; counters = refl }; accepted = refl }, (record { typed = record { parameters = refl; rates = refl; counters = refl }; accepted = refl }, (record { typed = record { parameters = refl; rates = refl; counters = refl }; accepted = refl }, tt))))))))))
+
+-- THE FIGURES
+pub figures : map seenOnBuffer cases ≡ expected
+figures = all-same cases all-fine ∙ figures-over-the-record

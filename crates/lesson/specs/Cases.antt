@@ -1,50 +1,76 @@
--- Document 01's figures for the classroom: what is opened, what is called, and what must be seen. Assumes nothing.
+-- Document 01's figures for the classroom: how the buffer is opened, what is called, and what must be seen, over the calls' own definitions
+-- on the 1,330 places and over the record. Assumes nothing.
 use Prim.Native.Nat.{ℕ}
-use mathlib.Core.List.{List, [], _∷_}
+use mathlib.Core.List.{List, [], _∷_, _++_}
+use lib.ListN.{getD, replicate}
 use Rattle.rules.specs.declared.Answer.{Answer}
-use Rattle.rules.specs.Calls.{Opening, Given, C-PDP-1, ask, granted, silent, rejected, tick, Call, timed, answer}
+use Rattle.rules.specs.Calls.{C-PDP-1, ask, granted, silent, rejected, tick, Call, timed, answer}
 use Rattle.rules.specs.Record.{counter}
 use Rattle.rules.specs.Told.{ruledAll, told}
+use Rattle.buffer.specs.Places.{SIZE}
+use Rattle.buffer.specs.Layout.{factsOf}
+use Rattle.card.specs.Card.{written}
+use Rattle.clock.specs.Call.{callAnswer, callAfter}
+use Rattle.opening.specs.Open.{Order, givenBy, openAfter}
 
--- an opening, the calls, what the rules answer over the record, and C-PDP-1 at the end
+-- an opening and the calls after it
 pub record Case : Type 0 where
-  pub from : Given
+  pub from : Order
   pub calls : List Call
 
+-- the answers, and C-PDP-1 at the end
 pub record Seen : Type 0 where
   pub given : List Answer
   pub pdp1 : ℕ
 
-abbrev pub seen : Case → Seen
-seen c = record { given = ruledAll (c .from) [] (c .calls); pdp1 = counter (c .from) C-PDP-1 (told (c .from) (c .calls)) }
+-- ---- On the buffer: 1,330 places of 0 are opened, each call is made, and at the end the counter file is written
 
--- IMSI 1010123456789, intervals 60, 120, 240, RPM 1, unnamed limits 0
-abbrev opening : (opened N1 F2 F4 S1 LR3 : ℕ) → Opening
-opening t n1 f2 f4 s1 lr3 = record {
-  opened = t;
+abbrev pub answersOn : List ℕ → List Call → List Answer
+answersOn b [] = []
+answersOn b (c ∷ cs) = callAnswer b c ∷ answersOn (callAfter b c) cs
+
+abbrev pub leftBy : List ℕ → List Call → List ℕ
+leftBy b [] = b
+leftBy b (c ∷ cs) = leftBy (callAfter b c) cs
+
+abbrev pub empty : List ℕ
+empty = replicate SIZE 0
+
+abbrev pub seenOnBuffer : Case → Seen
+seenOnBuffer c =
+    let b = openAfter empty (c .from) in
+    record { given = answersOn b (c .calls); pdp1 = getD (written (factsOf (leftBy b (c .calls)) .counters)) 2 0 }
+
+-- ---- Over the record
+
+abbrev pub seenOverRecord : Case → Seen
+seenOverRecord c = let g = givenBy (c .from) in record { given = ruledAll g [] (c .calls); pdp1 = counter g C-PDP-1 (told g (c .calls)) }
+
+-- ---- The cases: IMSI 1010123456789, intervals 60, 120, 240, RPM 1, unnamed limits 0
+
+-- a card file: the bytes that are used, then 0
+abbrev padded : ℕ → List ℕ → List ℕ
+padded n l = l ++ replicate n 0
+
+abbrev from : (opened nfm N1 F2 F4 S1 LR3 pdp1 : ℕ) → Order
+from t nfm n1 f2 f4 s1 lr3 pdp1 = record {
+  time = t;
   imsi = 1010123456789;
+  intervals = 60 ∷ 120 ∷ 240 ∷ [];
+  nfm = nfm;
   rpm = 1;
-  N1 = n1;
-  T1 = 0;
-  F1 = 0;
-  F2 = f2;
-  F3 = 0;
-  F4 = f4;
   A1 = 0;
   S1 = s1;
-  LR1 = 0;
-  LR2 = 0;
-  LR3 = lr3;
+  parameters = padded 26 (n1 ∷ 0 ∷ 0 ∷ f2 ∷ 0 ∷ f4 ∷ []);
+  rates = padded 3 (0 ∷ 0 ∷ lr3 ∷ []);
+  counters = padded 26 (0 ∷ 0 ∷ pdp1 ∷ 0 ∷ 0 ∷ 0 ∷ []);
 }
 
-abbrev with : Opening → (nfm pdp1 : ℕ) → Given
-with o nfm pdp1 = record { opening = o; nfm = nfm; intervals = 60 ∷ 120 ∷ 240 ∷ []; counters = 0 ∷ 0 ∷ pdp1 ∷ 0 ∷ 0 ∷ 0 ∷ [] }
+abbrev plain : Order
+plain = from 0 1 0 0 0 0 0 0
 
-abbrev plain : Given
-plain = with (opening 0 0 0 0 0 0) 1 0
-
-abbrev case : Given → List Call → Case
-case g cs = record { from = g; calls = cs }
+abbrev case : Order → List Call → Case
+case o cs = record { from = o; calls = cs }
 
 abbrev pub cases : List Case
 cases =
@@ -54,19 +80,19 @@ cases =
     -- C2, C3
     ∷ case plain (timed 1000 (ask 2) ∷ timed 1010 (rejected 2 26 0) ∷ timed 1098 (ask 2) ∷ timed 1099 (ask 2) ∷ [])
     -- C4, C5
-    ∷ case (with (opening 0 0 0 0 2 0) 1 0) (timed 10 (ask 3) ∷ timed 10 (granted 3) ∷ timed 20 (ask 3) ∷ timed 20 (granted 3) ∷ timed 3609 (ask 3) ∷ timed 3610 (ask 3) ∷ [])
+    ∷ case (from 0 1 0 0 0 2 0 0) (timed 10 (ask 3) ∷ timed 10 (granted 3) ∷ timed 20 (ask 3) ∷ timed 20 (granted 3) ∷ timed 3609 (ask 3) ∷ timed 3610 (ask 3) ∷ [])
     -- C6, C7
-    ∷ case (with (opening 0 1 0 0 0 0) 1 0) (timed 100 (ask 5) ∷ timed 3699 (ask 5) ∷ timed 3700 (ask 5) ∷ [])
+    ∷ case (from 0 1 1 0 0 0 0 0) (timed 100 (ask 5) ∷ timed 3699 (ask 5) ∷ timed 3700 (ask 5) ∷ [])
     -- C8
-    ∷ case (with (opening 0 0 0 2 0 0) 1 0) (timed 0 (ask 2) ∷ timed 1 (granted 2) ∷ timed 2 (ask 4) ∷ timed 3 (ask 2) ∷ [])
+    ∷ case (from 0 1 0 0 2 0 0 0) (timed 0 (ask 2) ∷ timed 1 (granted 2) ∷ timed 2 (ask 4) ∷ timed 3 (ask 2) ∷ [])
     -- C9
-    ∷ case (with (opening 0 0 1 0 0 0) 0 0) (timed 0 (ask 2) ∷ timed 1 (rejected 2 33 0) ∷ timed 2 (ask 2) ∷ [])
+    ∷ case (from 0 0 0 1 0 0 0 0) (timed 0 (ask 2) ∷ timed 1 (rejected 2 33 0) ∷ timed 2 (ask 2) ∷ [])
     -- C10
-    ∷ case (with (opening 0 0 0 0 0 1) 1 3) (timed 3599 tick ∷ [])
-    ∷ case (with (opening 0 0 0 0 0 1) 1 3) (timed 3599 tick ∷ timed 3600 tick ∷ [])
-    ∷ case (with (opening 0 0 0 0 0 1) 1 3) (timed 3599 tick ∷ timed 3600 tick ∷ timed 10800 tick ∷ [])
+    ∷ case (from 0 1 0 0 0 0 1 3) (timed 3599 tick ∷ [])
+    ∷ case (from 0 1 0 0 0 0 1 3) (timed 3599 tick ∷ timed 3600 tick ∷ [])
+    ∷ case (from 0 1 0 0 0 0 1 3) (timed 3599 tick ∷ timed 3600 tick ∷ timed 10800 tick ∷ [])
     -- the printed trace, opened at 1000 with S1 = 2
-    ∷ case (with (opening 1000 0 0 0 2 0) 1 0)
+    ∷ case (from 1000 1 0 0 0 2 0 0)
     (timed 1000 (ask 2) ∷ timed 1010 (rejected 2 26 0) ∷ timed 1098 (ask 2) ∷ timed 1099 (ask 2) ∷ timed 1100 (granted 2) ∷ timed 1101 (ask 2) ∷ [])
     ∷ []
 

@@ -1,5 +1,4 @@
 pub mod Copying
-pub mod Rising
 pub mod Filling
 pub mod Cases
 pub mod OneResult

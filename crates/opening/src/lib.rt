@@ -1,5 +1,6 @@
 // Opening: a new buffer of what is given, or a refusal and the buffer as it was. It needs no earlier time and no good buffer.
 use buffer::places as at;
+use buffer::scan::rising;
 use rules::Answer;
 ghost use mathlib.Core.Path.{_≡_};
 ghost use mathlib.Core.List.{[], _∷_};
@@ -28,16 +29,7 @@ fn blank(s: &mut [u32])
 fn schedule(l: &[u32]) -> bool
     ensures { λ r. ⌜ r ≡ scheduled (now (l .entry)) ⌝ }
 {
-    let mut ok = (1 <= l.len()) & (l.len() <= 10);
-    let mut low: u32 = 1;
-    let mut i = 0;
-    while i < l.len() {
-        let x = l[i];
-        ok = ok & ((low <= x) & (x <= 65535));
-        low = x;
-        i += 1;
-    }
-    ok
+    ((1 <= l.len()) & (l.len() <= 10)) & rising(l, 1, 65535)
 }
 
 // The settings are in range; time and files are not looked at.

@@ -1,0 +1,90 @@
+// The gate: every call of Dialchisel under one name, on a state of 1,330 numbers that the caller lends. Every call accepts every input: a
+// state of any length and contents, any number, any file and room. A refusal changes nothing in any of them.
+//
+// What each call promises is a relation between what it was given, what it answers and what it leaves: `OpenSays`, `Says` and `SaveSays`.
+// Each allows one result only.
+use rules::Answer;
+ghost use Rattle.rules.specs.Calls.{timed, ask, granted, silent, rejected, dropped, tick};
+ghost use Rattle.clock.specs.Call.{Says};
+ghost use Rattle.opening.specs.Open.{order, OpenSays};
+ghost use Rattle.saving.specs.Save.{SaveSays};
+
+// Opens the state: a new record begins. 1 for a state that is not 1,330 numbers, 2 for a setting or file out of range, 3 for the time.
+pub fn open(
+    state: &mut [u32],
+    time: u32,
+    imsi: u64,
+    intervals: &[u32],
+    nfm: u32,
+    rpm: u32,
+    a1: u32,
+    s1: u32,
+    params: &[u8],
+    leaks: &[u8],
+    counters: &[u8],
+) -> Answer
+    ensures { λ r. ⌜ OpenSays (now (state .entry)) (order time imsi (now (intervals .entry)) nfm rpm a1 s1 (now (params .entry)) (now (leaks .entry)) (now (counters .entry))) r (now (state .exit)) ⌝ }
+{
+    opening::open(
+        state,
+        time,
+        imsi,
+        intervals,
+        nfm,
+        rpm,
+        a1,
+        s1,
+        params,
+        leaks,
+        counters,
+    )
+}
+
+// May request `kind` go to the network at `time`? 0 yes; 10 to 18 no.
+pub fn request(state: &mut [u32], time: u32, kind: u32) -> Answer
+    ensures { λ r. ⌜ Says (now (state .entry)) (timed time (ask kind)) r (now (state .exit)) ⌝ }
+{
+    request::request(state, time, kind)
+}
+
+// What was asked of a service was granted.
+pub fn granted(state: &mut [u32], time: u32, service: u32) -> Answer
+    ensures { λ r. ⌜ Says (now (state .entry)) (timed time (granted service)) r (now (state .exit)) ⌝ }
+{
+    outcome::granted(state, time, service)
+}
+
+// What was asked of a service was rejected with a cause; `second` says whether a second network exists. 20 to 23 say what to do.
+pub fn rejected(state: &mut [u32], time: u32, service: u32, cause: u32, second: u32) -> Answer
+    ensures { λ r. ⌜ Says (now (state .entry)) (timed time (rejected service cause second)) r (now (state .exit)) ⌝ }
+{
+    outcome::rejected(state, time, service, cause, second)
+}
+
+// What was asked of a service had no answer.
+pub fn silent(state: &mut [u32], time: u32, service: u32) -> Answer
+    ensures { λ r. ⌜ Says (now (state .entry)) (timed time (silent service)) r (now (state .exit)) ⌝ }
+{
+    outcome::silent(state, time, service)
+}
+
+// Service 2, which was up, was dropped.
+pub fn dropped(state: &mut [u32], time: u32) -> Answer
+    ensures { λ r. ⌜ Says (now (state .entry)) (timed time dropped) r (now (state .exit)) ⌝ }
+{
+    outcome::dropped(state, time)
+}
+
+// The clock call: time passes, and nothing else.
+pub fn tick(state: &mut [u32], time: u32) -> Answer
+    ensures { λ r. ⌜ Says (now (state .entry)) (timed time tick) r (now (state .exit)) ⌝ }
+{
+    clock::tick(state, time)
+}
+
+// Writes the counter file to exactly 32 bytes of room.
+pub fn counters(state: &mut [u32], out: &mut [u8]) -> Answer
+    ensures { λ r. ⌜ SaveSays (now (state .entry)) (now (out .entry)) r (now (state .exit)) (now (out .exit)) ⌝ }
+{
+    saving::save(state, out)
+}

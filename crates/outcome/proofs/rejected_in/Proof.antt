@@ -1,0 +1,60 @@
+-- `outcome::rejected_in` meets its contract. Assumes nothing.
+use lib.Dec.{leb}
+use Rattle.rules.specs.Calls.{rejected}
+use Rattle.rules.specs.Rules.{refusal, inRange, stands}
+use Rattle.clock.proofs.Saying.{says-number}
+use Rattle.rules.proofs.Checks.{and-left}
+use Rattle.outcome.proofs.Outcomes.{low, passed-range, passed-time, says-rejected}
+use borrow.Author.Needs.{needs}
+use Rattle.outcome.proofs.rejected_in.Statement.{statement}
+use Rattle.outcome.proofs.rejected_in.Tie as tie
+
+checks-requires : tie.Need-checks-requires
+checks-requires c κs = search needs
+
+same-length : tie.Need-same-length
+same-length c = search needs
+
+returns : tie.Need-returns
+unfolding refusal inRange stands
+returns c =
+    let x = c .before .before .before .before in
+    let n = c .before .checks in
+    says-number (x .args .s .now) (x .pre .1) (x .args .t) (rejected (x .args .service) (x .args .cause) (x .args .second)) (n .result) (n .ensures) (c .if1 .taken)
+
+action-requires : tie.Need-action-requires
+action-requires c κs = search needs
+
+mood-requires : tie.Need-mood-requires
+mood-requires c κs = search needs
+
+fail-requires : tie.Need-fail-requires
+unfolding refusal inRange stands
+fail-requires c κs =
+    let x = c .before .before .before .before .before .before .before in let n = c .before .before .before .before .checks in
+    let z = c .before .before .before .if1 .left in
+    let range = passed-range (x .args .s .now) (x .args .t) (rejected (x .args .service) (x .args .cause) (x .args .second)) (n .result) (n .ensures) z in
+    (x .pre .0, (x .pre .1, (low (x .args .service) (and-left (leb (x .args .service) 3) _ range), passed-time (x .args .s .now) (x .args .t) (rejected (x .args .service) (x .args .cause) (x .args .second)) (n .result) (n .ensures) z)))
+
+same-length-2 : tie.Need-same-length-2
+same-length-2 c = search needs
+
+returns-2 : tie.Need-returns-2
+unfolding refusal inRange stands
+returns-2 c =
+    let x = c .before .before .before .before .before .before .before .before .before .before in let n = c .before .before .before .before .before .before .before .checks in
+    let r = c .before .before .fail .ensures in
+    says-rejected (x .args .s .now) (x .pre .1) (x .args .t) (n .result) (c .before .before .before .before .before .before .if1 .left) (x .args .service) (x .args .cause) (x .args .second) (n .ensures) (c .before .before .before .before .action .ensures) (c .before .before .before .mood .ensures) (r .0) (r .1)
+
+pub rejected-in-spec : {M : Type 1} → statement M
+rejected-in-spec =
+    tie.close
+    (tie.spec
+    checks-requires
+    same-length
+    returns
+    action-requires
+    mood-requires
+    fail-requires
+    same-length-2
+    returns-2)
