@@ -313,7 +313,7 @@ with-sane f l v s c h = record { opening = s .opening; mode = s .mode; late = s 
 pub interval-range : (f : Facts) → Sane f → (n : ℕ) → 1 ≤ n → (1 ≤ interval (f .mode .intervals) n) × (interval (f .mode .intervals) n ≤ 65535)
 interval-range f h n p = let l = f .mode .intervals in ascending-at 1 65535 l (min n (length l) - 1) (h .mode .rising) (omega (arith, h .mode .some))
 
-wait-low : (f : Facts) (s : ℕ) → Sane f → wait f s ≤ 131069
+pub wait-low : (f : Facts) (s : ℕ) → Sane f → wait f s ≤ 131069
 unfolding wait waitFor
 wait-low f s h =
     let l = f .mode .intervals in

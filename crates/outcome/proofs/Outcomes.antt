@@ -1,6 +1,6 @@
 -- Outcomes on a good buffer: their answers, and what they leave. Assumes nothing.
-use mathlib.Core.Path.{_≡_, refl, sym, ap, _∙_, subst}
-use mathlib.Core.Bool.{Bool, true, false, cond, not, _&&_}
+use mathlib.Core.Path.{_≡_, refl, sym, ap, _∙_}
+use mathlib.Core.Bool.{Bool, true, false, cond, not, _&&_, _||_, or-false}
 use mathlib.Core.List.{List, [], _∷_}
 use Prim.Native.Nat.{ℕ, _+_, _-_, _*_, _%_, _^_, _≤_, _<_, min}
 use native.Mathlib.Nat.{mod-lt}
@@ -12,7 +12,7 @@ use Rattle.outcome.specs.declared.Backoff.{Backoff}
 use Rattle.rules.specs.declared.Answer.{Answer}
 use Rattle.rules.specs.Calls.{Event, granted, silent, rejected, dropped, timed, answer}
 use Rattle.rules.specs.Tables.{highestTime, Kind, among, action, moodOn, oneMore, interval, waitFor}
-use Rattle.rules.specs.Rules.{Facts, check, inRange, timely, stands, refusal, wait, failed, verdict, refused, moved, onGranted, onFailed, acted, changed, onto, adds}
+use Rattle.rules.specs.Rules.{Facts, Services, check, inRange, timely, stands, refusal, wait, failed, verdict, refused, moved, withServices, onGranted, onFailed, acted, changed, onto, adds}
 use Rattle.rules.proofs.Checks.{in-range, in-time, failed-wait}
 use Rattle.buffer.specs.Places.{QUOTIENT, REMAINDER, COUNT, INTERVALS, FAILURES, STANDING, MOOD}
 use Rattle.buffer.specs.Segments.{part}
@@ -21,9 +21,8 @@ use Rattle.buffer.specs.Good.{good}
 use Rattle.buffer.proofs.Goodness.{good-shape, interval-count, valid-view}
 use Rattle.buffer.proofs.Segments.{part-at}
 use Rattle.buffer.proofs.Sane.{Sane, valid-facts}
-use Rattle.buffer.proofs.Keep.{interval-range}
+use Rattle.buffer.proofs.Keep.{interval-range, wait-low}
 use Rattle.buffer.proofs.Laid.{Laid, laid-as, laid-failures, laid-end, laid-standing, laid-mood, failures-at}
-use Rattle.buffer.proofs.Laid as laid
 use Rattle.clock.specs.Call.{Says}
 use Rattle.clock.proofs.Saying.{says-good, rules-on, moves}
 use Rattle.clock.proofs.Leaking.{laid-moved}
@@ -31,37 +30,43 @@ use Rattle.outcome.specs.Outcome.{clear, later, loaded, stored, rested, 
 
 -- ---- What the parts make of a buffer that is laid out
 
+-- and of its services: a back-off stored, a service at rest, a service that backs off
+abbrev on-stored : ℕ → Backoff → Services → Services
+on-stored i x v = record { failures = set (v .failures) i (x .failures); ends = set (v .ends) i (x .end); standing = v .standing; mood = v .mood }
+
+abbrev on-rested : Bool → ℕ → ℕ → ℕ → Services → Services
+on-rested two i x m v = record { failures = v .failures; ends = v .ends; standing = set (v .standing) i x; mood = cond two m (v .mood) }
+
+abbrev on-backed : Bool → ℕ → ℕ → Services → Services
+on-backed y i e v = record {
+  failures = cond y (set (v .failures) i (oneMore (getD (v .failures) i 0))) (v .failures);
+  ends = cond y (set (v .ends) i e) (v .ends);
+  standing = v .standing;
+  mood = v .mood;
+}
+
 module _ {b : List ℕ} {f : Facts} {rs : List (List ℕ)} (l : Laid b f rs) (i : ℕ) (h : i < 4) where
-  laid-stored : (x : Backoff)
-      → Laid (stored b i x) (laid.withServices f (set (f .services .failures) i (x .failures)) (set (f .services .ends) i (x .end)) (f .services .standing) (f .services .mood)) rs
+  laid-stored : (x : Backoff) → Laid (stored b i x) (withServices f (on-stored i x (f .services))) rs
   laid-stored x = laid-end (laid-failures l i (x .failures) h) i (x .end) h
 
-  laid-rested : (x m : ℕ)
-      → Laid (rested b i x m) (laid.withServices f (f .services .failures) (f .services .ends) (set (f .services .standing) i x) (cond (eqb i 2) m (f .services .mood))) rs
+  laid-rested : (x m : ℕ) → Laid (rested b i x m) (withServices f (on-rested (eqb i 2) i x m (f .services))) rs
   unfolding rested
   laid-rested x m = go (eqb i 2)
     where
       go : (y : Bool)
-          → Laid (cond y (set (set b (STANDING + i) x) MOOD m) (set b (STANDING + i) x)) (laid.withServices f (f .services .failures) (f .services .ends) (set (f .services .standing) i x) (cond y m (f .services .mood))) rs
+          → Laid (cond y (set (set b (STANDING + i) x) MOOD m) (set b (STANDING + i) x)) (withServices f (on-rested y i x m (f .services))) rs
       go true = laid-mood (laid-standing l i x h) m
       go false = laid-standing l i x h
 
-  laid-backed : (t n w : ℕ)
-      → Laid (backed b t i n w)
-      (laid.withServices f (cond (eqb n 20) (set (f .services .failures) i (oneMore (getD (f .services .failures) i 0))) (f .services .failures)) (cond (eqb n 20) (set (f .services .ends) i (t + w)) (f .services .ends)) (f .services .standing) (f .services .mood))
-      rs
+  laid-backed : (t n w : ℕ) → Laid (backed b t i n w) (withServices f (on-backed (eqb n 20) i (t + w) (f .services))) rs
   unfolding backed
   laid-backed t n w = go (eqb n 20)
     where
-      go : (y : Bool)
-          → Laid (cond y (stored b i (later (loaded b i) (t + w))) b)
-          (laid.withServices f (cond y (set (f .services .failures) i (oneMore (getD (f .services .failures) i 0))) (f .services .failures)) (cond y (set (f .services .ends) i (t + w)) (f .services .ends)) (f .services .standing) (f .services .mood))
-          rs
-      go true =
-          subst
-          (λ (x : ℕ). Laid (stored b i (later (loaded b i) (t + w))) (laid.withServices f (set (f .services .failures) i (oneMore x)) (set (f .services .ends) i (t + w)) (f .services .standing) (f .services .mood)) rs)
-          (failures-at l i h)
-          (laid-stored (later (loaded b i) (t + w)))
+      x : Backoff
+      x = later (loaded b i) (t + w)
+
+      go : (y : Bool) → Laid (cond y (stored b i x) b) (withServices f (on-backed y i (t + w) (f .services))) rs
+      go true = rw (← failures-at l i h) (laid-stored x)
       go false = l
 
 -- ---- The wait
@@ -69,17 +74,9 @@ module _ {b : List ℕ} {f : Facts} {rs : List (List ℕ)} (l : Laid b f rs) (i 
 sane-of : (b : List ℕ) → good b ≡ true → Sane (factsOf b)
 sane-of b g = valid-facts (view b) (valid-view b g) .sane
 
-pub base-range : (b : List ℕ) → good b ≡ true → (n : ℕ) → (1 ≤ interval (factsOf b .mode .intervals) (oneMore n)) × (interval (factsOf b .mode .intervals) (oneMore n) ≤ 65535)
+pub base-range : (b : List ℕ) → good b ≡ true → (n : ℕ)
+    → (1 ≤ interval (factsOf b .mode .intervals) (oneMore n)) × (interval (factsOf b .mode .intervals) (oneMore n) ≤ 65535)
 base-range b g n = interval-range (factsOf b) (sane-of b g) (oneMore n) (omega arith)
-
-wait-low : (b : List ℕ) → good b ≡ true → (i : ℕ) → wait (factsOf b) i ≤ 131069
-unfolding wait waitFor
-wait-low b g i =
-    let f = factsOf b in
-    let n = getD (f .services .failures) i 0 in
-    let r = base-range b g n in
-    let m : f .opening .imsi % interval (f .mode .intervals) (oneMore n) < interval (f .mode .intervals) (oneMore n) = mod-lt (f .opening .imsi) (omega (arith, r .0)) in
-    omega (arith, r .1, m)
 
 -- where the interval of one failure more than n stands, of m intervals
 module _ (b : List ℕ) (g : good b ≡ true) (n m : ℕ) (e : m ≡ getD b COUNT 0) where
@@ -102,11 +99,11 @@ module _ (b : List ℕ) (g : good b ≡ true) (n m : ℕ) (e : m ≡ getD b COUN
       rw i (sym (part-at b INTERVALS (getD b COUNT 0) (m - 1) (omega (arith, count-range .0))))
 
 -- the wait, by the places
-pub waits : (b : List ℕ) (i : ℕ) → i < 4 → {r p q n : ℕ} → r ≡ p + q % p → p ≡ interval (factsOf b .mode .intervals) (oneMore n) → n ≡ getD b (FAILURES + i) 0
-    → q ≡ getD b QUOTIENT 0 * 2 ^ 32 + getD b REMAINDER 0 → r ≡ wait (factsOf b) i
+pub waits : (b : List ℕ) (i : ℕ) → i < 4 → {r p q n : ℕ} → r ≡ p + q % p
+    → p ≡ interval (factsOf b .mode .intervals) (oneMore n) → n ≡ getD b (FAILURES + i) 0 → q ≡ getD b QUOTIENT 0 * 2 ^ 32 + getD b REMAINDER 0 → r ≡ wait (factsOf b) i
 unfolding wait waitFor factsOf
-waits b i h {p = p} e u v w =
-    let k : p ≡ interval (factsOf b .mode .intervals) (oneMore (getD (part b FAILURES 4) i 0)) = u ∙ ap (λ (n : ℕ). interval (factsOf b .mode .intervals) (oneMore n)) (v ∙ sym (part-at b FAILURES 4 i h)) in
+waits b i h e u v w =
+    let k = u ∙ ap (λ (n : ℕ). interval (factsOf b .mode .intervals) (oneMore n)) (v ∙ sym (part-at b FAILURES 4 i h)) in
     e ∙ (λ j. k j + w j % k j)
 
 -- ---- What is left
@@ -116,7 +113,8 @@ module _ (b : List ℕ) (g : good b ≡ true) (t i : ℕ) (h : i < 4) where
   abbrev Clocked : List ℕ → Type 0
   Clocked x = x ≡ spread (moved t (factsOf b)) (rows (view b .lists))
 
-  pub grants : {x y z : List ℕ} → Clocked x → y ≡ stored x i clear → z ≡ rested y i (cond (eqb i 2) 2 0) 0 → z ≡ served b t (onGranted i (factsOf b .services))
+  pub grants : {x y z : List ℕ} → Clocked x → y ≡ stored x i clear → z ≡ rested y i (cond (eqb i 2) 2 0) 0
+      → z ≡ served b t (onGranted i (factsOf b .services))
   unfolding moved onGranted
   grants p q r = laid-as (laid-rested (laid-as (laid-stored (laid-moved b g t p) i h clear) q) i h (cond (eqb i 2) 2 0) 0) r .is
 
@@ -125,9 +123,10 @@ module _ (b : List ℕ) (g : good b ≡ true) (t i : ℕ) (h : i < 4) where
     pub end-fits : t ≤ highestTime → a .number ≡ 20 → t + a .second < 4294967296
     end-fits late k =
         let w : a .second ≡ wait (factsOf b) i = ap (λ (x : Answer). x .second) e ∙ failed-wait (factsOf b) i n (rw (← e) k) in
-        omega (arith, wait-low b g i)
+        omega (arith, wait-low (factsOf b) i (sane-of b g))
 
-    pub fails : (m : ℕ) {x y z : List ℕ} → Clocked x → y ≡ rested x i 0 m → z ≡ backed y t i (a .number) (a .second) → z ≡ served b t (onFailed t i a m (factsOf b .services))
+    pub fails : (m : ℕ) {x y z : List ℕ} → Clocked x → y ≡ rested x i 0 m → z ≡ backed y t i (a .number) (a .second)
+        → z ≡ served b t (onFailed t i a m (factsOf b .services))
     unfolding moved onFailed
     fails m p q r = laid-as (laid-backed (laid-as (laid-rested (laid-moved b g t p) i h 0 m) q) i h t (a .number) (a .second)) r .is
 
@@ -158,13 +157,15 @@ action-beyond k second h = rw (no 8 refl, no 26 refl, no 27 refl, no 29 refl, no
     no n l = let m = leb-true n 63 l in ne-eqb k n (λ z. omega arith)
 
 -- where the table has no 22 the flag does not matter, and where it has, the flag decides
-acts-other : (n : ℕ) (x y z w : Bool) → n ≡ cond x 20 (cond y 21 (cond z 22 23)) → (n ≡ 22 → ⊥) → n ≡ cond x 20 (cond y 21 (cond z (cond w 22 20) 23))
+acts-other : (n : ℕ) (x y z w : Bool) → n ≡ cond x 20 (cond y 21 (cond z 22 23)) → (n ≡ 22 → ⊥)
+    → n ≡ cond x 20 (cond y 21 (cond z (cond w 22 20) 23))
 acts-other n true y z w e h = e
 acts-other n false true z w e h = e
 acts-other n false false true w e h = absurd (h e)
 acts-other n false false false w e h = e
 
-acts-22 : (n : ℕ) (x y z w : Bool) → n ≡ cond x 20 (cond y 21 (cond z 22 23)) → n ≡ 22 → _≡_ {A = ℕ} (cond w 22 20) (cond x 20 (cond y 21 (cond z (cond w 22 20) 23)))
+acts-22 : (n : ℕ) (x y z w : Bool) → n ≡ cond x 20 (cond y 21 (cond z 22 23)) → n ≡ 22
+    → _≡_ {A = ℕ} (cond w 22 20) (cond x 20 (cond y 21 (cond z (cond w 22 20) 23)))
 acts-22 n true y z w e h = absurd (omega arith)
 acts-22 n false true z w e h = absurd (omega arith)
 acts-22 n false false true w e h = refl
@@ -178,6 +179,20 @@ module _ (n cause second : ℕ) (e : n ≡ action 2 cause 1) where
   pub action-22 : n ≡ 22 → cond (eqb second 1) 22 20 ≡ action 2 cause second
   unfolding action
   action-22 = acts-22 n (backs-off cause) (eqb cause 28) (eqb cause 34) (eqb second 1) e
+
+-- ---- The moods
+
+in-row : (a b c d e f : Bool) → (((((a || b) || c) || d) || e) || f) ≡ (a || (b || (c || (d || (e || (f || false))))))
+in-row true b c d e f = refl
+in-row false true c d e f = refl
+in-row false false true d e f = refl
+in-row false false false true e f = refl
+in-row false false false false true f = refl
+in-row false false false false false f = sym (or-false f)
+
+pub moods : (k : ℕ) {x : Bool} → (((((eqb k 8 || eqb k 27) || eqb k 28) || eqb k 29) || eqb k 32) || eqb k 33) ≡ x → cond x 2 3 ≡ moodOn k
+unfolding moodOn
+moods k e = ap (λ (x : Bool). cond {A = ℕ} x 2 3) (sym e ∙ in-row (eqb k 8) (eqb k 27) (eqb k 28) (eqb k 29) (eqb k 32) (eqb k 33))
 
 -- a failure is answered, not refused
 failed-low : (f : Facts) (i n : ℕ) → 6 ≤ n → refused (failed f i n) ≡ false
@@ -194,8 +209,8 @@ failed-low f i n h = go (eqb n 20) (eqb (f .mode .nfm) 1)
 pub low : (i : ℕ) → leb i 3 ≡ true → i < 4
 low i h = omega (arith, leb-true i 3 h)
 
-pub dropped-refusal : (b : List ℕ) (t n : ℕ) {u : Bool} {v : ℕ} → n ≡ check true 2 (check u 3 (check (eqb v 2) 4 0)) → u ≡ timely (factsOf b) t → v ≡ getD b (STANDING + 2) 0
-    → n ≡ refusal (factsOf b) (timed t dropped)
+pub dropped-refusal : (b : List ℕ) (t n : ℕ) {u : Bool} {v : ℕ} → n ≡ check true 2 (check u 3 (check (eqb v 2) 4 0))
+    → u ≡ timely (factsOf b) t → v ≡ getD b (STANDING + 2) 0 → n ≡ refusal (factsOf b) (timed t dropped)
 unfolding refusal inRange stands factsOf
 dropped-refusal b t n d p q = d ∙ (λ j. check true 2 (check (p j) 3 (check (eqb ((q ∙ sym (part-at b STANDING 4 2 (lit< tt))) j) 2) 4 0)))
 
@@ -216,26 +231,34 @@ module _ (b : List ℕ) (t : ℕ) (e : Event) (n : ℕ) (d : n ≡ refusal (fact
       says-good b g (timed t e) a rules (p ∙ sym (moves b g (timed t e) a rules r none))
 
 module _ (b : List ℕ) (g : good b ≡ true) (t n : ℕ) (z : n ≡ 0) where
-  pub says-granted : (i : ℕ) → n ≡ refusal (factsOf b) (timed t (granted i)) → {x : List ℕ} → x ≡ served b t (onGranted i (factsOf b .services)) → Says b (timed t (granted i)) (answer 0 0) x
+  pub says-granted : (i : ℕ) → n ≡ refusal (factsOf b) (timed t (granted i)) → {x : List ℕ} → x ≡ served b t (onGranted i (factsOf b .services))
+      → Says b (timed t (granted i)) (answer 0 0) x
   unfolding verdict moved acted adds onto
   says-granted i d p = says-event b t (granted i) n d z g (answer 0 0) refl refl (λ k. refl) p
 
-  pub says-dropped : n ≡ refusal (factsOf b) (timed t dropped) → {x y : List ℕ} → x ≡ spread (moved t (factsOf b)) (rows (view b .lists)) → y ≡ set x (STANDING + 2) 0 → Says b (timed t dropped) (answer 0 0) y
+  pub says-dropped : n ≡ refusal (factsOf b) (timed t dropped) → {x y : List ℕ} → x ≡ spread (moved t (factsOf b)) (rows (view b .lists))
+      → y ≡ set x (STANDING + 2) 0 → Says b (timed t dropped) (answer 0 0) y
   unfolding verdict moved acted adds onto
-  says-dropped d p q = says-event b t dropped n d z g (answer 0 0) refl refl (λ k. refl) (laid-as (laid-standing (laid-moved b g t p) 2 0 (lit< tt)) q .is)
+  says-dropped d p q =
+      says-event b t dropped n d z g (answer 0 0) refl refl (λ k. refl)
+      (laid-as (laid-standing (laid-moved b g t p) 2 0 (lit< tt)) q .is)
 
   no-permit : (y : Bool) → cond (y && false) (t ∷ []) [] ≡ []
   no-permit true = refl
   no-permit false = refl
 
-  pub says-silent : (i : ℕ) → n ≡ refusal (factsOf b) (timed t (silent i)) → {a : Answer} {x : List ℕ} → a ≡ failed (factsOf b) i 20 → x ≡ served b t (onFailed t i a 1 (factsOf b .services)) → Says b (timed t (silent i)) a x
+  pub says-silent : (i : ℕ) → n ≡ refusal (factsOf b) (timed t (silent i)) → {a : Answer} {x : List ℕ} → a ≡ failed (factsOf b) i 20
+      → x ≡ served b t (onFailed t i a 1 (factsOf b .services)) → Says b (timed t (silent i)) a x
   unfolding verdict moved acted adds onto
-  says-silent i d {a} e p = says-event b t (silent i) n d z g a (sym e) (rw e (failed-low (factsOf b) i 20 (omega arith))) (λ k. no-permit (eqb (a .number) 0)) p
+  says-silent i d {a} e p =
+      says-event b t (silent i) n d z g a (sym e) (rw e (failed-low (factsOf b) i 20 (omega arith))) (λ k. no-permit (eqb (a .number) 0)) p
 
-  pub says-rejected : (i cause second : ℕ) → n ≡ refusal (factsOf b) (timed t (rejected i cause second)) → {k m : ℕ} {a : Answer} {x : List ℕ} → k ≡ action i cause second → m ≡ moodOn cause
-      → a ≡ failed (factsOf b) i k → x ≡ served b t (onFailed t i a m (factsOf b .services)) → Says b (timed t (rejected i cause second)) a x
+  pub says-rejected : (i cause second : ℕ) → n ≡ refusal (factsOf b) (timed t (rejected i cause second)) → {k m : ℕ} {a : Answer} {x : List ℕ}
+      → k ≡ action i cause second → m ≡ moodOn cause → a ≡ failed (factsOf b) i k → x ≡ served b t (onFailed t i a m (factsOf b .services))
+      → Says b (timed t (rejected i cause second)) a x
   unfolding verdict moved acted adds onto
   says-rejected i cause second d {a = a} u v e p =
       let is : a ≡ failed (factsOf b) i (action i cause second) = e ∙ ap (failed (factsOf b) i) u in
-      says-event b t (rejected i cause second) n d z g a (sym is) (rw is (failed-low (factsOf b) i (action i cause second) (action-low i cause second))) (λ k. no-permit (eqb (a .number) 0))
+      let low = failed-low (factsOf b) i (action i cause second) (action-low i cause second) in
+      says-event b t (rejected i cause second) n d z g a (sym is) (rw is low) (λ k. no-permit (eqb (a .number) 0))
       (p ∙ ap (λ (m : ℕ). served b t (onFailed t i a m (factsOf b .services))) v)

@@ -179,8 +179,11 @@ pub fn mood(cause: u32) -> u32
     ensures { λ r. ⌜ r ≡ moodOn cause ⌝ }
 {
     if (cause == 8)
-        | ((cause == 27)
-            | ((cause == 28) | ((cause == 29) | ((cause == 32) | ((cause == 33) | false)))))
+        | (cause == 27)
+        | (cause == 28)
+        | (cause == 29)
+        | (cause == 32)
+        | (cause == 33)
     {
         return 2;
     }
@@ -317,7 +320,8 @@ fn fail(s: &mut [u32], t: u32, i: usize, n: u32, m: u32) -> Answer
     requires { ⌜ good (now s) ≡ true ⌝ }
     requires { ⌜ i < 4 ⌝ }
     requires { ⌜ t ≤ highestTime ⌝ }
-    ensures { λ r. ⌜ (r ≡ failed (factsOf (now (s .entry))) i n) × (now (s .exit) ≡ served (now (s .entry)) t (onFailed t i r m (factsOf (now (s .entry)) .services))) ⌝ }
+    ensures { λ r. ⌜ r ≡ failed (factsOf (now (s .entry))) i n ⌝ }
+    ensures { λ r. ⌜ now (s .exit) ≡ served (now (s .entry)) t (onFailed t i r m (factsOf (now (s .entry)) .services)) ⌝ }
 {
     let a = failing(s, i, n);
     clock::advance(s, t);

@@ -1,6 +1,12 @@
 // What is timed by itself, exported for the programs under bench/. Firmware has no use for it.
+use rules::Answer;
 ghost use mathlib.Core.Path.{_≡_};
+ghost use mathlib.Core.Bool.{true};
+ghost use lib.ListN.{length};
+ghost use Rattle.rules.specs.Calls.{timed, ask, tick};
+ghost use Rattle.buffer.specs.Places.{SIZE};
 ghost use Rattle.buffer.specs.Good.{good};
+ghost use Rattle.clock.specs.Call.{Says};
 
 // Whether a buffer is good.
 #[no_mangle]
@@ -8,4 +14,40 @@ pub extern "C" fn timing_is_good(s: &[u32]) -> bool
     ensures { λ r. ⌜ r ≡ good (now (s .entry)) ⌝ }
 {
     buffer::is_good(s)
+}
+
+// The clock call.
+#[no_mangle]
+pub extern "C" fn timing_tick(s: &mut [u32], t: u32) -> Answer
+    ensures { λ r. ⌜ Says (now (s .entry)) (timed t tick) r (now (s .exit)) ⌝ }
+{
+    clock::tick(s, t)
+}
+
+// The clock call on a good buffer.
+#[no_mangle]
+pub extern "C" fn timing_tick_in(s: &mut [u32], t: u32) -> Answer
+    requires { ⌜ length (now s) ≡ SIZE ⌝ }
+    requires { ⌜ good (now s) ≡ true ⌝ }
+    ensures { λ r. ⌜ Says (now (s .entry)) (timed t tick) r (now (s .exit)) ⌝ }
+{
+    clock::tick_in(s, t)
+}
+
+// A request.
+#[no_mangle]
+pub extern "C" fn timing_request(s: &mut [u32], t: u32, q: u32) -> Answer
+    ensures { λ r. ⌜ Says (now (s .entry)) (timed t (ask q)) r (now (s .exit)) ⌝ }
+{
+    request::request(s, t, q)
+}
+
+// A request on a good buffer.
+#[no_mangle]
+pub extern "C" fn timing_request_in(s: &mut [u32], t: u32, q: u32) -> Answer
+    requires { ⌜ length (now s) ≡ SIZE ⌝ }
+    requires { ⌜ good (now s) ≡ true ⌝ }
+    ensures { λ r. ⌜ Says (now (s .entry)) (timed t (ask q)) r (now (s .exit)) ⌝ }
+{
+    request::request_in(s, t, q)
 }

@@ -1,7 +1,4 @@
 -- `outcome::action` meets its contract. Assumes nothing.
-use mathlib.Core.Bool.{Bool, cond}
-use Prim.Native.Nat.{ℕ}
-use mathlib.Core.Path.{sym, ap, _∙_}
 use borrow.Author.Tests.{eq-eqb, ne-eqb}
 use Rattle.rules.specs.Tables.{action}
 use Rattle.outcome.proofs.Outcomes.{action-beyond, action-other, action-22}
@@ -22,17 +19,22 @@ listed-requires c κs = search needs
 returns-3 : tie.Need-returns-3
 returns-3 c =
     let a = c .before .before .before .before .args in
-    rw (c .before .before .before .if1 .left) (action-other (c .before .listed .result) (a .cause) (a .second) (c .before .listed .ensures) (c .if3 .taken))
+    let n = c .before .listed in
+    rw (c .before .before .before .if1 .left) (action-other (n .result) (a .cause) (a .second) (n .ensures) (c .if3 .taken))
 
 returns-4 : tie.Need-returns-4
 returns-4 c =
     let a = c .before .before .before .before .before .args in
-    rw (c .before .before .before .before .if1 .left) (ap (λ (x : Bool). cond {A = ℕ} x 22 20) (sym (eq-eqb (a .second) 1 (c .if4 .taken))) ∙ action-22 (c .before .before .listed .result) (a .cause) (a .second) (c .before .before .listed .ensures) (c .before .if3 .left))
+    let n = c .before .before .listed in
+    let e = action-22 (n .result) (a .cause) (a .second) (n .ensures) (c .before .if3 .left) in
+    rw (c .before .before .before .before .if1 .left) (rw (eq-eqb _ _ (c .if4 .taken)) at e)
 
 returns-5 : tie.Need-returns-5
 returns-5 c =
     let a = c .before .before .before .before .before .args in
-    rw (c .before .before .before .before .if1 .left) (ap (λ (x : Bool). cond {A = ℕ} x 22 20) (sym (ne-eqb (a .second) 1 (c .if4 .left))) ∙ action-22 (c .before .before .listed .result) (a .cause) (a .second) (c .before .before .listed .ensures) (c .before .if3 .left))
+    let n = c .before .before .listed in
+    let e = action-22 (n .result) (a .cause) (a .second) (n .ensures) (c .before .if3 .left) in
+    rw (c .before .before .before .before .if1 .left) (rw (ne-eqb _ _ (c .if4 .left)) at e)
 
 pub action-spec : {M : Type 1} → statement M
 action-spec = tie.close (tie.spec returns returns-2 listed-requires returns-3 returns-4 returns-5)

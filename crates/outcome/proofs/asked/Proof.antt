@@ -16,7 +16,8 @@ returns : tie.Need-returns
 unfolding factsOf
 returns c =
     let x = c .before .before in
-    let e : getD (part (x .args .s .now) STANDING 4) (x .args .service) 0 ≡ 0 = List·getD-eq-default (part (x .args .s .now) STANDING 4) 0 (simp length-take (omega arith)) in
+    let e : getD (part (x .args .s .now) STANDING 4) (x .args .service) 0 ≡ 0 =
+    List·getD-eq-default (part (x .args .s .now) STANDING 4) 0 (simp length-take (omega arith)) in
     rw e
 
 standing-requires : tie.Need-standing-requires

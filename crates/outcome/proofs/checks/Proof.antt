@@ -17,7 +17,8 @@ refuse-requires c κs = search needs
 
 returns : tie.Need-returns
 unfolding factsOf
-returns c = c .refuse .ensures ∙ (λ j. check (c .before .before .before .before .args .range) 2 (check (c .before .before .timely .ensures j) 3 (check (c .before .asked .ensures j) 4 0)))
+returns c = c .refuse .ensures
+    ∙ (λ j. check (c .before .before .before .before .args .range) 2 (check (c .before .before .timely .ensures j) 3 (check (c .before .asked .ensures j) 4 0)))
 
 pub checks-spec : {M : Type 1} → statement M
 checks-spec = tie.close (tie.spec timely-requires asked-requires refuse-requires returns)

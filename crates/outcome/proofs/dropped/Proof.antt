@@ -12,7 +12,9 @@ same-length : tie.Need-same-length
 same-length c = search needs
 
 returns : tie.Need-returns
-returns c = let a = c .before .before .before .before .args in known-bad (a .s .now) (timed (a .t) dropped) (c .before .is-good .ensures) (c .if1 .taken)
+returns c =
+    let a = c .before .before .before .before .args in
+    known-bad (a .s .now) (timed (a .t) dropped) (c .before .is-good .ensures) (c .if1 .taken)
 
 dropped-in-requires : tie.Need-dropped-in-requires
 dropped-in-requires c κs = known-good (c .before .before .before .before .before .args .s .now) (c .before .before .is-good .ensures) (c .before .if1 .left)

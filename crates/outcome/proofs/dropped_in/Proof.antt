@@ -24,7 +24,9 @@ unfolding factsOf
 returns c =
     let x = c .before .before .before .before .before .before .before in
     let n = c .before .refuse in
-    let d = dropped-refusal (x .args .s .now) (x .args .t) (n .result) (n .ensures) (c .before .before .before .before .timely .ensures) (c .before .before .standing .ensures) in
+    let time = c .before .before .before .before .timely .ensures in
+    let stands = c .before .before .standing .ensures in
+    let d = dropped-refusal (x .args .s .now) (x .args .t) (n .result) (n .ensures) time stands in
     says-number (x .args .s .now) (x .pre .1) (x .args .t) dropped (n .result) d (c .if1 .taken)
 
 advance-requires : tie.Need-advance-requires
@@ -41,8 +43,12 @@ unfolding factsOf
 returns-2 c =
     let x = c .before .before .before .before .before .before .before .before .before .before .before .before .before .before .before in
     let n = c .before .before .before .before .before .before .before .before .before .refuse in
-    let d = dropped-refusal (x .args .s .now) (x .args .t) (n .result) (n .ensures) (c .before .before .before .before .before .before .before .before .before .before .before .before .timely .ensures) (c .before .before .before .before .before .before .before .before .before .before .standing .ensures) in
-    says-dropped (x .args .s .now) (x .pre .1) (x .args .t) (n .result) (c .before .before .before .before .before .before .before .before .if1 .left) d (c .before .before .before .before .before .before .advance .ensures) (c .before .before .set-standing .ensures)
+    let time = c .before .before .before .before .before .before .before .before .before .before .before .before .timely .ensures in
+    let stands = c .before .before .before .before .before .before .before .before .before .before .standing .ensures in
+    let d = dropped-refusal (x .args .s .now) (x .args .t) (n .result) (n .ensures) time stands in
+    says-dropped (x .args .s .now) (x .pre .1) (x .args .t) (n .result) (c .before .before .before .before .before .before .before .before .if1 .left) d
+    (c .before .before .before .before .before .before .advance .ensures)
+    (c .before .before .set-standing .ensures)
 
 pub dropped-in-spec : {M : Type 1} → statement M
 dropped-in-spec =

@@ -26,8 +26,11 @@ same-length c = search needs
 returns : tie.Need-returns
 returns c =
     let x = c .before .before .before .before .before .before .before .before .before .before .before .before .before .before .before in
-    let a = c .before .before .before .before .before .before .before .before .before .before .before .before .failing in
-    (a .ensures, fails (x .args .s .now) (x .pre .1 .0) (x .args .t) (x .args .i) (x .pre .1 .1 .0) (x .args .n) (a .result) (a .ensures) (x .args .m) (c .before .before .before .before .before .before .before .before .before .before .advance .ensures) (c .before .before .before .before .before .before .rest .ensures) (c .before .before .back .ensures))
+    let a = c .before .before .before .before .before .before .before .before .before .before .before .before .failing in (
+      a .ensures,
+      fails (x .args .s .now) (x .pre .1 .0) (x .args .t) (x .args .i) (x .pre .1 .1 .0) (x .args .n) (a .result) (a .ensures) (x .args .m)
+          (c .before .before .before .before .before .before .before .before .before .before .advance .ensures) (c .before .before .before .before .before .before .rest .ensures) (c .before .before .back .ensures),
+    )
 
 pub fail-spec : {M : Type 1} → statement M
 fail-spec =

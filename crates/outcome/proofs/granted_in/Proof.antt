@@ -35,7 +35,8 @@ unfolding refusal inRange stands
 returns-2 c =
     let x = c .before .before .before .before .before .before .before .before in
     let n = c .before .before .before .before .before .checks in
-    says-granted (x .args .s .now) (x .pre .1) (x .args .t) (n .result) (c .before .before .before .before .if1 .left) (x .args .service) (n .ensures) (c .before .before .grant .ensures)
+    says-granted (x .args .s .now) (x .pre .1) (x .args .t) (n .result) (c .before .before .before .before .if1 .left) (x .args .service) (n .ensures)
+    (c .before .before .grant .ensures)
 
 pub granted-in-spec : {M : Type 1} → statement M
 granted-in-spec =

@@ -31,10 +31,12 @@ mood-requires c κs = search needs
 fail-requires : tie.Need-fail-requires
 unfolding refusal inRange stands
 fail-requires c κs =
-    let x = c .before .before .before .before .before .before .before in let n = c .before .before .before .before .checks in
+    let x = c .before .before .before .before .before .before .before in
+    let n = c .before .before .before .before .checks in
     let z = c .before .before .before .if1 .left in
     let range = passed-range (x .args .s .now) (x .args .t) (rejected (x .args .service) (x .args .cause) (x .args .second)) (n .result) (n .ensures) z in
-    (x .pre .0, (x .pre .1, (low (x .args .service) (and-left (leb (x .args .service) 3) _ range), passed-time (x .args .s .now) (x .args .t) (rejected (x .args .service) (x .args .cause) (x .args .second)) (n .result) (n .ensures) z)))
+    let late = passed-time (x .args .s .now) (x .args .t) (rejected (x .args .service) (x .args .cause) (x .args .second)) (n .result) (n .ensures) z in
+    (x .pre .0, (x .pre .1, (low (x .args .service) (and-left (leb (x .args .service) 3) _ range), late)))
 
 same-length-2 : tie.Need-same-length-2
 same-length-2 c = search needs
@@ -42,9 +44,11 @@ same-length-2 c = search needs
 returns-2 : tie.Need-returns-2
 unfolding refusal inRange stands
 returns-2 c =
-    let x = c .before .before .before .before .before .before .before .before .before .before in let n = c .before .before .before .before .before .before .before .checks in
+    let x = c .before .before .before .before .before .before .before .before .before .before in
+    let n = c .before .before .before .before .before .before .before .checks in
     let r = c .before .before .fail .ensures in
-    says-rejected (x .args .s .now) (x .pre .1) (x .args .t) (n .result) (c .before .before .before .before .before .before .if1 .left) (x .args .service) (x .args .cause) (x .args .second) (n .ensures) (c .before .before .before .before .action .ensures) (c .before .before .before .mood .ensures) (r .0) (r .1)
+    says-rejected (x .args .s .now) (x .pre .1) (x .args .t) (n .result) (c .before .before .before .before .before .before .if1 .left) (x .args .service) (x .args .cause) (x .args .second) (n .ensures)
+    (c .before .before .before .before .action .ensures) (c .before .before .before .mood .ensures) (r .0) (r .1)
 
 pub rejected-in-spec : {M : Type 1} → statement M
 rejected-in-spec =

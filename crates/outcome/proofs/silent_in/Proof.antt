@@ -23,9 +23,12 @@ returns c =
 fail-requires : tie.Need-fail-requires
 unfolding refusal inRange stands
 fail-requires c κs =
-    let x = c .before .before .before .before .before in let n = c .before .before .checks in
+    let x = c .before .before .before .before .before in
+    let n = c .before .before .checks in
     let z = c .before .if1 .left in
-    (x .pre .0, (x .pre .1, (low (x .args .service) (passed-range (x .args .s .now) (x .args .t) (silent (x .args .service)) (n .result) (n .ensures) z), passed-time (x .args .s .now) (x .args .t) (silent (x .args .service)) (n .result) (n .ensures) z)))
+    let range = passed-range (x .args .s .now) (x .args .t) (silent (x .args .service)) (n .result) (n .ensures) z in
+    let late = passed-time (x .args .s .now) (x .args .t) (silent (x .args .service)) (n .result) (n .ensures) z in
+    (x .pre .0, (x .pre .1, (low (x .args .service) range, late)))
 
 same-length-2 : tie.Need-same-length-2
 same-length-2 c = search needs

@@ -14,12 +14,13 @@ base-requires : tie.Need-base-requires
 base-requires c κs = search needs
 
 spread-out-requires : tie.Need-spread-out-requires
-spread-out-requires c κs = let x = c .before .before .before .before in rw (c .base .ensures) (base-range (x .args .s .now) (x .pre .1 .0) (c .before .failures .result))
+spread-out-requires c κs =
+    let x = c .before .before .before .before in
+    rw (c .base .ensures) (base-range (x .args .s .now) (x .pre .1 .0) (c .before .failures .result))
 
 returns : tie.Need-returns
-returns c =
-    let x = c .before .before .before .before .before in
-    waits (x .args .s .now) (x .args .i) (x .pre .1 .1) (c .spread-out .ensures) (c .before .base .ensures) (c .before .before .failures .ensures) (c .before .before .before .imsi .ensures)
+returns c = let x = c .before .before .before .before .before in waits (x .args .s .now) (x .args .i) (x .pre .1 .1)
+    (c .spread-out .ensures) (c .before .base .ensures) (c .before .before .failures .ensures) (c .before .before .before .imsi .ensures)
 
 pub wait-spec : {M : Type 1} → statement M
 wait-spec =
