@@ -15,7 +15,8 @@ use Rattle.buffer.specs.Places.{SIZE, REMAINDER, COUNT, INTERVALS, LENGT
 use Rattle.buffer.specs.Segments.{concat, part, pad}
 use Rattle.buffer.specs.Layout.{widths, segments, spread, lay, rows, row, factsOf, view}
 use Rattle.buffer.specs.Good.{every, atMost, zeros, bytes, unused, Shape, count-good, imsi-good, intervals-good, list-good, row-good, lines, good, fits, values, valid}
-use Rattle.buffer.proofs.Tests.{and-left, and-right, pick, passed}
+use Rattle.rules.proofs.Checks.{and-left, and-right}
+use Rattle.buffer.proofs.Tests.{pick, passed}
 use Rattle.buffer.proofs.Segments.{pieces, concat-pieces, spelled, spell, length-part, part-at}
 use Rattle.buffer.proofs.Laying.{Shaped, length-pad, length-lay, get, cut, places-at, count-at, view-lay}
 

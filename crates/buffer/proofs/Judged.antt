@@ -9,7 +9,8 @@ use lib.ListN.{length, getD, take, drop}
 use Rattle.buffer.specs.Places.{SIZE, COUNT, LENGTHS}
 use Rattle.buffer.specs.Segments.{part}
 use Rattle.buffer.specs.Good.{bytes, count-good, lines, good, some-lines}
-use Rattle.buffer.proofs.Tests.{and-left, and-right, pick, passed, fails}
+use Rattle.rules.proofs.Checks.{and-left, and-right}
+use Rattle.buffer.proofs.Tests.{pick, passed, fails}
 use Rattle.buffer.proofs.Goodness.{both-true}
 
 -- two tests of which each implies the other

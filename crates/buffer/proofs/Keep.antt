@@ -16,7 +16,7 @@ use Rattle.rules.specs.Rules.{State, Facts, Services, check, refusal, wait, fai
 use Rattle.rules.proofs.Checks.{accepted, on-time, in-time, refused-adds, failed-wait, failed-on}
 use Rattle.rules.proofs.Newest.{acted-keeps, obeyed-keeps}
 use Rattle.buffer.specs.Good.{atMost, zeros, bytes, highestEnd, valid}
-use Rattle.buffer.proofs.Tests.{and-left, and-right}
+use Rattle.rules.proofs.Checks.{and-left, and-right}
 use Rattle.buffer.proofs.Goodness.{at-most}
 use Rattle.buffer.proofs.Sane.{highest, SaneServices, SaneCounters, Sane, Valid, valid-facts, facts-valid}
 

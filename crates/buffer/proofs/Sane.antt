@@ -12,7 +12,8 @@ use Rattle.rules.specs.Tables.{highestTime, Kind, attach, activation, pdp, sms,
 use Rattle.rules.specs.Rules.{State, Facts, Mode, Services}
 use Rattle.buffer.specs.Layout.{rows, place}
 use Rattle.buffer.specs.Good.{every, atMost, zeros, bytes, highestEnd, parameters, house, rates, times-good, imsi-good, flags-good, count-good, intervals-good, ends-good, standing-good, mood-good, list-good, fits, values, valid}
-use Rattle.buffer.proofs.Tests.{and-left, and-right, pick, passed}
+use Rattle.rules.proofs.Checks.{and-left, and-right}
+use Rattle.buffer.proofs.Tests.{pick, passed}
 use Rattle.buffer.proofs.Laying.{Shaped, at-place}
 use Rattle.buffer.proofs.Goodness.{both-true, shaped-valid, fits-shaped}
 

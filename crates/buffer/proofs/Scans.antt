@@ -14,7 +14,7 @@ use borrow.Rule.Slice.PartMut.{putMid}
 use Rattle.rules.specs.Tables.{ascending}
 use Rattle.buffer.specs.Segments.{part, paste}
 use Rattle.buffer.specs.Good.{atMost}
-use Rattle.buffer.proofs.Tests.{and-left, and-right}
+use Rattle.rules.proofs.Checks.{and-left, and-right}
 
 -- what was passed and what is left decide: `ok` and the rest of the list
 module _ (hi : ℕ) (p : List ℕ) (i : ℕ) (ok : Bool) (so : atMost hi p ≡ (ok && atMost hi (drop i p))) where

@@ -5,15 +5,8 @@ use mathlib.Core.List.{List, [], _∷_}
 use Prim.Native.Nat.{ℕ, zero, suc}
 use lib.ListN.{getD}
 use borrow.Author.Tests.{not-true, not-false}
+use Rattle.rules.proofs.Checks.{and-left, and-right}
 use Rattle.buffer.specs.Good.{from, every}
-
-pub and-left : (a b : Bool) → (a && b) ≡ true → a ≡ true
-and-left true b h = refl
-and-left false b h = h
-
-pub and-right : (a b : Bool) → (a && b) ≡ true → b ≡ true
-and-right true b h = h
-and-right false b h = absurd (false≢true h)
 
 from-true : (a : Bool) (ts : List Bool) → from a ts ≡ true → a ≡ true
 from-true a [] h = h

@@ -48,8 +48,11 @@ fn erase(out: &mut [u8])
     }
 }
 
+// The six counters, as bytes.
+pub type Counters = [u8; 6];
+
 // Writes the counter file: the six counters, and 26 bytes of 0.
-pub fn write(out: &mut [u8], c: [u8; 6])
+pub fn write(out: &mut [u8], c: Counters)
     requires { ⌜ length (now out) ≡ 32 ⌝ }
     ensures { λ _. ⌜ now (out .exit) ≡ written c ⌝ }
 {

@@ -11,7 +11,8 @@ use Rattle.rules.specs.Tables.{highestTime, ascending, scheduled}
 use Rattle.rules.specs.Rules.{fresh}
 use Rattle.buffer.specs.Places.{SIZE}
 use Rattle.buffer.specs.Layout.{lay}
-use Rattle.buffer.proofs.Tests.{and-left, and-right, both, pick}
+use Rattle.rules.proofs.Checks.{and-left, and-right}
+use Rattle.buffer.proofs.Tests.{both, pick}
 use Rattle.card.specs.Card.{file, parameterFile, rateFile, counterFile}
 use Rattle.opening.specs.Open.{Order, order, settings, files, openNumber, givenBy, openAfter, OpenSays}
 

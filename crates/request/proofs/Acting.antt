@@ -12,7 +12,7 @@ use Rattle.rules.specs.Rules.{Facts, counted, idle, asked, newest}
 use Rattle.buffer.specs.Places.{STANDING, COUNTERS}
 use Rattle.buffer.specs.Layout.{rows}
 use Rattle.buffer.specs.Lists.{permitted}
-use Rattle.buffer.proofs.Tests.{and-left, and-right}
+use Rattle.rules.proofs.Checks.{and-left, and-right}
 use Rattle.buffer.proofs.Keep.{newest-all}
 use Rattle.buffer.proofs.Laid.{Laid, withCounters, withServices, laid-counter, counter-at, laid-standing, laid-permit}
 use Rattle.request.specs.Request.{bumped, tallied, stood, listed}
