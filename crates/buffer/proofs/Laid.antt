@@ -2,15 +2,18 @@
 use mathlib.Core.Path.{_≡_, refl, sym, ap, _∙_}
 use mathlib.Core.Bool.{true}
 use mathlib.Core.List.{List, [], _∷_, _++_}
-use Prim.Native.Nat.{ℕ, _+_, _<_}
+use Prim.Native.Nat.{ℕ, _+_, _≤_, _<_}
+use native.Mathlib.Omega.{arith}
 use lib.Dec.{lit<}
 use lib.ListN.{length, getD, set, length-set}
-use Rattle.rules.specs.Rules.{Facts, Mode, newest}
-use Rattle.buffer.specs.Places.{SIZE, LAST, NFM, START, FAILURES, ENDS, STANDING, MOOD, COUNTERS}
-use Rattle.buffer.specs.Layout.{segments, spread, rows, factsOf, view}
+use Rattle.rules.specs.Rules.{Facts, Mode, idle, newest}
+use Rattle.buffer.specs.Places.{SIZE, LAST, NFM, START, COUNT, INTERVALS, FAILURES, ENDS, STANDING, MOOD, COUNTERS}
+use Rattle.buffer.specs.Segments.{concat, pad, paste}
+use Rattle.buffer.specs.Layout.{widths, segments, spread, rows, factsOf, view}
 use Rattle.buffer.specs.Good.{Shape, good}
 use Rattle.buffer.specs.Lists.{Listed, permitted}
-use Rattle.buffer.proofs.Laying.{Shaped, get, put, length-lay}
+use Rattle.buffer.proofs.Laying.{Shaped, get, put, sizes, length-pad, paste-whole, length-lay}
+use Rattle.buffer.proofs.Segments.{paste-seg, width-set}
 use Rattle.buffer.proofs.Goodness.{shape-lay, shaped, lay-view, good-shape}
 use Rattle.buffer.proofs.Listing.{shaped-permit, permit-row, row-listed}
 
@@ -26,6 +29,15 @@ withMode f m = record { opening = f .opening; mode = m; last = f .last; counters
 
 abbrev pub withServices : Facts → (failures ends standing : List ℕ) → ℕ → Facts
 withServices f a b c m = record { opening = f .opening; mode = f .mode; last = f .last; counters = f .counters; services = record { failures = a; ends = b; standing = c; mood = m } }
+
+-- four stores of 0
+pub all-four : (l : List ℕ) → length l ≡ 4 → set (set (set (set l 0 0) 1 0) 2 0) 3 0 ≡ idle
+all-four (a ∷ b ∷ c ∷ d ∷ []) h = refl
+all-four [] h = absurd (omega arith)
+all-four (a ∷ []) h = absurd (omega arith)
+all-four (a ∷ b ∷ []) h = absurd (omega arith)
+all-four (a ∷ b ∷ c ∷ []) h = absurd (omega arith)
+all-four (a ∷ b ∷ c ∷ d ∷ x ∷ l) h = absurd (omega arith)
 
 pub record Laid (b : List ℕ) (f : Facts) (rs : List (List ℕ)) : Type 0 where
   pub shaped : Shaped f rs
@@ -108,6 +120,23 @@ module _ {b : List ℕ} {f : Facts} {rs : List (List ℕ)} (l : Laid b f rs) whe
   pub laid-counter : (i a : ℕ) → i < 6 → Laid (set b (COUNTERS + i) a) (withCounters f (set (f .counters) i a)) rs
   unfolding spread segments
   laid-counter i a h = record { shaped = same-shape _ refl refl refl refl (length-set (f .counters) i a); is = rw (l .is) (put f rs (l .shaped) 14 i a h) }
+
+  -- other intervals, and their number
+  pub laid-intervals : (x : List ℕ) → length x ≤ 10
+      → Laid (paste (set b COUNT (length x)) INTERVALS (pad 10 x)) (withMode f (record { nfm = f .mode .nfm; start = f .mode .start; intervals = x })) rs
+  unfolding spread segments
+  laid-intervals x h =
+      let s = l .shaped in
+      let long = length-pad 10 x h in
+      let segs = set (segments f rs) 5 (length x ∷ []) in
+      record {
+        shaped = record { intervals = h; failures = s .failures; ends = s .ends; standing = s .standing; counters = s .counters; five = s .five; short = s .short };
+        is =
+            rw (l .is)
+            (ap (λ (y : List ℕ). paste y INTERVALS (pad 10 x)) (put f rs s 5 0 (length x) (lit< tt))
+            ∙ paste-seg segs widths (width-set (segments f rs) widths (sizes f rs s) 5 (length x ∷ []) refl) 6 0 (pad 10 x) (omega (arith, long)) (lit< tt)
+            ∙ ap (λ (y : List ℕ). concat (set segs 6 y)) (paste-whole (pad 10 (f .mode .intervals)) (pad 10 x) (omega (arith, long, length-pad 10 (f .mode .intervals) (s .intervals)))));
+      }
 
   -- a permit on list k
   pub laid-permit : (k t : ℕ) → k < 5 → Laid (permitted b k t) f (set rs k (newest (getD rs k [] ++ (t ∷ []))))

@@ -191,6 +191,14 @@ pub fn set_start(s: &mut [u32], x: u32)
     s[at::START] = x;
 }
 
+// Stores how many base intervals there are.
+pub fn set_count(s: &mut [u32], x: u32)
+    requires { ⌜ length (now s) ≡ SIZE ⌝ }
+    ensures { λ _. ⌜ now (s .exit) ≡ set (now (s .entry)) COUNT x ⌝ }
+{
+    s[at::COUNT] = x;
+}
+
 // Stores service 2's mood.
 pub fn set_mood(s: &mut [u32], x: u32)
     requires { ⌜ length (now s) ≡ SIZE ⌝ }

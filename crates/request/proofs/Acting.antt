@@ -14,17 +14,8 @@ use Rattle.buffer.specs.Layout.{rows}
 use Rattle.buffer.specs.Lists.{permitted}
 use Rattle.rules.proofs.Checks.{and-left, and-right}
 use Rattle.buffer.proofs.Keep.{newest-all}
-use Rattle.buffer.proofs.Laid.{Laid, withCounters, withServices, laid-counter, counter-at, laid-standing, laid-permit}
+use Rattle.buffer.proofs.Laid.{all-four, Laid, withCounters, withServices, laid-counter, counter-at, laid-standing, laid-permit}
 use Rattle.request.specs.Request.{bumped, tallied, stood, listed}
-
--- four stores of 0
-all-four : (l : List ℕ) → length l ≡ 4 → set (set (set (set l 0 0) 1 0) 2 0) 3 0 ≡ idle
-all-four (a ∷ b ∷ c ∷ d ∷ []) h = refl
-all-four [] h = absurd (omega arith)
-all-four (a ∷ []) h = absurd (omega arith)
-all-four (a ∷ b ∷ []) h = absurd (omega arith)
-all-four (a ∷ b ∷ c ∷ []) h = absurd (omega arith)
-all-four (a ∷ b ∷ c ∷ d ∷ x ∷ l) h = absurd (omega arith)
 
 abbrev pub stands-at : Facts → List ℕ → Facts
 stands-at f l = withServices f (f .services .failures) (f .services .ends) l (f .services .mood)
