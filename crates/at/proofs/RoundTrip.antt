@@ -47,7 +47,7 @@ from-ascending last (x ∷ xs) e =
 to-scheduled : (xs : List ℕ) → 1 ≤ length xs → length xs ≤ 10 → Rising 1 xs → scheduled xs ≡ true
 to-scheduled xs a b r = rw (le-leb 1 (length xs) a, le-leb (length xs) 10 b, to-ascending 1 xs r)
 
-from-scheduled : (xs : List ℕ) → scheduled xs ≡ true → (1 ≤ length xs) × (length xs ≤ 10) × Rising 1 xs
+pub from-scheduled : (xs : List ℕ) → scheduled xs ≡ true → (1 ≤ length xs) × (length xs ≤ 10) × Rising 1 xs
 from-scheduled xs e =
     let p = both _ _ e in
     let q = both _ _ (p .0) in

@@ -1,5 +1,4 @@
 -- `at::ends` meets its contract. Assumes nothing.
-use Prim.Native.Nat.{_-_}
 use mathlib.Core.Path.{sym, _∙_}
 use native.Mathlib.Omega.{arith}
 use Rattle.at.proofs.LineLaws.{ends-not, ends-here, ends-more}

@@ -1,0 +1,170 @@
+-- What a line does to a good buffer, and what the call says in each of its cases. Assumes nothing.
+use mathlib.Core.Path.{_≡_, refl, sym, ap, _∙_, subst}
+use mathlib.Core.Bool.{Bool, true, false, cond, and-false}
+use mathlib.Core.List.{List}
+use Prim.Native.Nat.{ℕ, suc, _+_, _≤_, _<_}
+use native.Mathlib.Omega.{arith}
+use lib.Dec.{lit<, leb, eqb}
+use lib.ListN.{length, getD, set}
+use Rattle.rules.specs.declared.Answer.{Answer}
+use Rattle.rules.specs.Calls.{Line, query, nfm, nfm-start, intervals, bad, typed, answer}
+use Rattle.rules.specs.Rules.{Facts, ruling, refusal, refused, verdict, changed, obeyed, switched, adds, idle}
+use Rattle.buffer.specs.Places.{NFM, START}
+use Rattle.buffer.specs.Segments.{pad}
+use Rattle.buffer.specs.Layout.{rows, factsOf, view}
+use Rattle.buffer.specs.Good.{good}
+use Rattle.buffer.proofs.Laid.{Laid, withMode, withServices, all-four, laid-good, laid-as, laid-nfm, laid-start, laid-failures, laid-end, laid-intervals}
+use Rattle.buffer.proofs.Laying.{length-pad}
+use Rattle.buffer.proofs.Goodness.{valid-view}
+use Rattle.buffer.proofs.Sane.{valid-facts}
+use Rattle.outcome.specs.Outcome.{stored, clear}
+use Rattle.clock.specs.Call.{Says}
+use Rattle.clock.proofs.Saying.{moves, says-good, says-refused}
+use Rattle.text.proofs.Choice.{absurd-bool}
+use Rattle.at.specs.Lines.{readLine}
+use Rattle.at.specs.Order.{ten, listOf}
+use Rattle.at.specs.Print.{Valid}
+use Rattle.at.proofs.RoundTrip.{from-scheduled, accepted, read-accepted}
+use Rattle.command.specs.Command.{okay, reply, over, calmed, turned, timedBy, heard, CommandSays}
+
+abbrev quiet : Facts → Facts
+quiet f = withServices f idle idle (f .services .standing) (f .services .mood)
+
+-- service i without failure and end
+laid-calm : {b : List ℕ} {f : Facts} {rs : List (List ℕ)} → Laid b f rs → (i : ℕ) → i < 4
+    → Laid (stored b i clear) (withServices f (set (f .services .failures) i 0) (set (f .services .ends) i 0) (f .services .standing) (f .services .mood)) rs
+laid-calm l i h = laid-end (laid-failures l i 0 h) i 0 h
+
+-- all four
+laid-calmed : {b : List ℕ} {f : Facts} {rs : List (List ℕ)} → Laid b f rs → Laid (calmed b) (quiet f) rs
+laid-calmed {b} {f} {rs} l =
+    subst (λ (x : List ℕ). Laid (calmed b) (withServices f x idle (f .services .standing) (f .services .mood)) rs) (all-four (f .services .failures) (l .shaped .failures))
+    (subst (λ (x : List ℕ). Laid (calmed b) (withServices f (set (set (set (set (f .services .failures) 0 0) 1 0) 2 0) 3 0) x (f .services .standing) (f .services .mood)) rs) (all-four (f .services .ends) (l .shaped .ends))
+    (laid-calm (laid-calm (laid-calm (laid-calm l 0 (lit< tt)) 1 (lit< tt)) 2 (lit< tt)) 3 (lit< tt)))
+
+laid-turned : {b : List ℕ} {f : Facts} {rs : List (List ℕ)} → Laid b f rs → (a s : ℕ) → Laid (turned b a s) (switched a s f) rs
+unfolding turned switched
+laid-turned {b} {f} {rs} l a s = go (eqb a 0)
+  where
+    m : Laid (set (set b NFM a) START s) (withMode f (record { nfm = a; start = s; intervals = f .mode .intervals })) rs
+    m = laid-start (laid-nfm l a) s
+
+    go : (x : Bool) → Laid (cond x (calmed (set (set b NFM a) START s)) (set (set b NFM a) START s))
+        (record {
+          opening = f .opening;
+          mode = record { nfm = a; start = s; intervals = f .mode .intervals };
+          last = f .last;
+          counters = f .counters;
+          services = record { failures = cond x idle (f .services .failures); ends = cond x idle (f .services .ends); standing = f .services .standing; mood = f .services .mood };
+        })
+        rs
+    go true = laid-calmed m
+    go false = m
+
+-- a line that no check refuses, once it is done
+module _ (b : List ℕ) (g : good b ≡ true) (l : Line) (h : refusal (factsOf b) (typed l) ≡ 0) where
+  rules-on : ruling (view b) (typed l) ≡ verdict (view b) (typed l)
+  unfolding ruling
+  rules-on = rw h
+
+  pub says-line : (a : Answer) {x : List ℕ} → verdict (view b) (typed l) ≡ a → refused a ≡ false → Laid x (obeyed l (factsOf b)) (rows (view b .lists)) → Says b (typed l) a x
+  unfolding changed adds
+  says-line a v n d = says-good b g (typed l) a (rules-on ∙ v) (d .is ∙ sym (moves b g (typed l) a (rules-on ∙ v) n (λ k. refl)))
+
+-- OK written from a place on, as the code counts places
+pub okay-at : (room : List ℕ) (i : ℕ) → set (set (set (set room i 79) (i + 1) 75) (i + 2) 13) (i + 3) 10 ≡ over room i okay
+okay-at room i =
+    let one : i + 1 ≡ suc i = omega arith in
+    let two : i + 2 ≡ suc (suc i) = omega arith in
+    let three : i + 3 ≡ suc (suc (suc i)) = omega arith in
+    rw (one, two, three)
+
+-- NFM and Start Timer of a good state are flags
+module _ (b : List ℕ) (g : good b ≡ true) where
+  pub nfm-flag : getD b NFM 0 ≤ 1
+  unfolding factsOf
+  nfm-flag = valid-facts (view b) (valid-view b g) .sane .mode .nfm
+
+  pub start-flag : getD b START 0 ≤ 1
+  unfolding factsOf
+  start-flag = valid-facts (view b) (valid-view b g) .sane .mode .start
+
+-- a line that is read as an order
+abbrev isBad : Line → Bool
+isBad query = false
+isBad (nfm a) = false
+isBad (nfm-start a s) = false
+isBad (intervals l) = false
+isBad bad = true
+
+module _ (line : List ℕ) (l : Line) (e : readLine line ≡ l) (n : isBad l ≡ false) where
+  no-bad : readLine line ≡ bad → ⊥
+  no-bad k = absurd-bool (sym n ∙ ap isBad (sym e ∙ k))
+
+  taken : (f : Facts) → refusal f (typed l) ≡ 0
+  taken f = subst (λ (m : Line). refusal f (typed m) ≡ 0) e (read-accepted line f no-bad)
+
+  is-valid : Valid l
+  is-valid = subst Valid e (accepted line no-bad .0)
+
+-- a line has at most ten intervals
+pub few : (line : List ℕ) → length (listOf (readLine line)) ≤ 10
+few line = go (readLine line) refl
+  where
+    go : (l : Line) → readLine line ≡ l → length (listOf l) ≤ 10
+    go query e = omega arith
+    go (nfm a) e = omega arith
+    go (nfm-start a s) e = omega arith
+    go (intervals xs) e = from-scheduled xs (is-valid line (intervals xs) e refl) .1
+    go bad e = omega arith
+
+-- and its list ten places
+pub ten-long : (line : List ℕ) → length (ten (listOf (readLine line))) ≡ 10
+unfolding pad
+ten-long line = length-pad 10 (listOf (readLine line)) (few line)
+
+-- what each kind of line has to show on a good state
+module _ (b : List ℕ) (g : good b ≡ true) (line room : List ℕ) where
+  abbrev Done : Answer → List ℕ → List ℕ → Type 0
+  Done r x y = Says b (typed (readLine line)) r x × (y ≡ over room 0 (reply (factsOf b) (readLine line)))
+
+  done : (l : Line) → readLine line ≡ l → isBad l ≡ false → (a : Answer) {x y : List ℕ} → verdict (view b) (typed l) ≡ a → refused a ≡ false
+      → Laid x (obeyed l (factsOf b)) (rows (view b .lists)) → y ≡ over room 0 (reply (factsOf b) l) → Done a x y
+  done l e n a v r d w = rw e (says-line b g l (taken line l e n (factsOf b)) a v r d, w)
+
+  pub did-query : {y : List ℕ} → readLine line ≡ query → y ≡ over room 0 (reply (factsOf b) query) → Done (answer 0 15) b y
+  unfolding verdict obeyed
+  did-query e w = done query e refl (answer 0 15) refl refl (laid-good b g) w
+
+  pub did-nfm : (a : ℕ) {s : ℕ} {x y : List ℕ} → readLine line ≡ nfm a → s ≡ getD b START 0 → x ≡ turned b a s → y ≡ over room 0 okay → Done (answer 0 4) x y
+  unfolding verdict obeyed factsOf
+  did-nfm a e k d w = done (nfm a) e refl (answer 0 4) refl refl (laid-as (laid-turned (laid-good b g) a (getD b START 0)) (d ∙ ap (turned b a) k)) w
+
+  pub did-nfm-start : (a s : ℕ) {x y : List ℕ} → readLine line ≡ nfm-start a s → x ≡ turned b a s → y ≡ over room 0 okay → Done (answer 0 4) x y
+  unfolding verdict obeyed
+  did-nfm-start a s e d w = done (nfm-start a s) e refl (answer 0 4) refl refl (laid-as (laid-turned (laid-good b g) a s) d) w
+
+  pub did-intervals : (l : List ℕ) {x y : List ℕ} → readLine line ≡ intervals l → x ≡ timedBy b l → y ≡ over room 0 okay → Done (answer 0 4) x y
+  unfolding verdict obeyed
+  did-intervals l e d w =
+      let h : length l ≤ 10 = subst (λ (m : Line). length (listOf m) ≤ 10) e (few line) in
+      done (intervals l) e refl (answer 0 4) refl refl (laid-as (laid-intervals (laid-good b g) l h) d) w
+
+  pub did-bad : readLine line ≡ bad → Done (answer 5 0) b room
+  unfolding ruling refusal
+  did-bad e = rw e (says-refused b g (typed bad) (answer 5 0) refl refl, refl)
+
+-- the two refusals of the whole call, and a line that is heard
+module _ {b line room : List ℕ} where
+  pub says-room : leb 16 (length room) ≡ false → CommandSays b line room (answer 1 0) b room
+  unfolding heard
+  says-room h = record { answered = rw (h, and-false (good b)); left = rw (h, and-false (good b)); written = rw (h, and-false (good b)) }
+
+  pub says-bad : good b ≡ false → CommandSays b line room (answer 1 0) b room
+  unfolding heard
+  says-bad g = record { answered = rw g; left = rw g; written = rw g }
+
+  pub says-heard : {r : Answer} {x y : List ℕ} → good b ≡ true → leb 16 (length room) ≡ true → Says b (typed (readLine line)) r x
+      → y ≡ over room 0 (reply (factsOf b) (readLine line)) → CommandSays b line room r x y
+  unfolding heard
+  says-heard g h d w = record { answered = rw (g, h) (d .answered); left = rw (g, h) (d .left); written = rw (g, h) w }

@@ -1,0 +1,170 @@
+// The call for AT lines: what a line says is done, and its answer is written to the room that the caller lends. It does not move the clock.
+use at::Kind;
+use buffer::fields;
+use rules::Answer;
+ghost use mathlib.Core.Path.{_≡_};
+ghost use mathlib.Core.Bool.{true};
+ghost use Prim.Native.Nat.{_+_, _<_, _≤_};
+ghost use lib.ListN.{length, take};
+ghost use Rattle.rules.specs.Calls.{typed, query};
+ghost use Rattle.buffer.specs.Places.{SIZE};
+ghost use Rattle.buffer.specs.Layout.{factsOf};
+ghost use Rattle.buffer.specs.Good.{good};
+ghost use Rattle.outcome.specs.Outcome.{stored, clear};
+ghost use Rattle.clock.specs.Call.{Says};
+ghost use Rattle.at.specs.Lines.{readLine};
+ghost use Rattle.command.specs.Command.{calmed, turned, timedBy, okay as okayBytes, shown, reply, over, CommandSays};
+
+// Service i has no failure and no end.
+fn calm(s: &mut [u32], i: usize)
+    requires { ⌜ length (now s) ≡ SIZE ⌝ }
+    requires { ⌜ i < 4 ⌝ }
+    ensures { λ _. ⌜ now (s .exit) ≡ stored (now (s .entry)) i clear ⌝ }
+{
+    let b = outcome::load(s, i);
+    outcome::store(s, i, b.cleared());
+}
+
+// None of the four has.
+fn calm_all(s: &mut [u32])
+    requires { ⌜ length (now s) ≡ SIZE ⌝ }
+    ensures { λ _. ⌜ now (s .exit) ≡ calmed (now (s .entry)) ⌝ }
+{
+    calm(s, 0);
+    calm(s, 1);
+    calm(s, 2);
+    calm(s, 3);
+}
+
+// NFM becomes a and Start Timer start; with a 0, failures and ends become 0.
+fn turn(s: &mut [u32], a: u32, start: u32)
+    requires { ⌜ length (now s) ≡ SIZE ⌝ }
+    ensures { λ _. ⌜ now (s .exit) ≡ turned (now (s .entry)) a start ⌝ }
+{
+    fields::set_nfm(s, a);
+    fields::set_start(s, start);
+    if a == 0 {
+        calm_all(s);
+    }
+}
+
+// The first n of the list become the intervals.
+fn schedule(s: &mut [u32], list: &[u32], n: usize)
+    requires { ⌜ length (now s) ≡ SIZE ⌝ }
+    requires { ⌜ (n ≤ 10) × (length (now list) ≡ 10) ⌝ }
+    ensures { λ _. ⌜ now (s .exit) ≡ timedBy (now (s .entry)) (take n (now (list .entry))) ⌝ }
+{
+    fields::set_count(s, n as u32);
+    opening::intervals(s, &list[..n]);
+}
+
+// OK CR LF, from a place on.
+fn okay(out: &mut [u8], i: usize)
+    requires { ⌜ i + 4 ≤ length (now out) ⌝ }
+    ensures { λ _. ⌜ now (out .exit) ≡ over (now (out .entry)) i okayBytes ⌝ }
+{
+    out[i] = b'O';
+    out[i + 1] = b'K';
+    out[i + 2] = 13;
+    out[i + 3] = 10;
+}
+
+// +NFM: a,s CR LF.
+fn told(out: &mut [u8], a: u8, s: u8)
+    requires { ⌜ 11 ≤ length (now out) ⌝ }
+    requires { ⌜ (a ≤ 1) × (s ≤ 1) ⌝ }
+    ensures { λ _. ⌜ now (out .exit) ≡ over (now (out .entry)) 0 (shown a s) ⌝ }
+{
+    out[0] = b'+';
+    out[1] = b'N';
+    out[2] = b'F';
+    out[3] = b'M';
+    out[4] = b':';
+    out[5] = b' ';
+    out[6] = b'0' + a;
+    out[7] = b',';
+    out[8] = b'0' + s;
+    out[9] = 13;
+    out[10] = 10;
+}
+
+// The read: NFM and Start Timer, then OK.
+fn show(s: &[u32], out: &mut [u8])
+    requires { ⌜ length (now s) ≡ SIZE ⌝ }
+    requires { ⌜ good (now s) ≡ true ⌝ }
+    requires { ⌜ 16 ≤ length (now out) ⌝ }
+    ensures { λ _. ⌜ now (out .exit) ≡ over (now (out .entry)) 0 (reply (factsOf (now (s .entry))) query) ⌝ }
+{
+    told(out, fields::nfm(s) as u8, fields::start(s) as u8);
+    okay(out, 11);
+}
+
+// An AT line on a good buffer.
+pub fn command_in(s: &mut [u32], line: &[u8], out: &mut [u8]) -> Answer
+    requires { ⌜ length (now s) ≡ SIZE ⌝ }
+    requires { ⌜ good (now s) ≡ true ⌝ }
+    requires { ⌜ 16 ≤ length (now out) ⌝ }
+    ensures { λ r. ⌜ Says (now (s .entry)) (typed (readLine (now (line .entry)))) r (now (s .exit)) × (now (out .exit) ≡ over (now (out .entry)) 0 (reply (factsOf (now (s .entry))) (readLine (now (line .entry))))) ⌝ }
+{
+    let order = at::read(line);
+    let kind = order.kind;
+    match kind {
+        Kind::Query => {
+            show(s, out);
+            Answer {
+                number: 0,
+                second: 15,
+            }
+        }
+        Kind::Nfm(a) => {
+            let start = fields::start(s);
+            turn(s, a, start);
+            okay(out, 0);
+            Answer {
+                number: 0,
+                second: 4,
+            }
+        }
+        Kind::NfmStart(a, start) => {
+            turn(s, a, start);
+            okay(out, 0);
+            Answer {
+                number: 0,
+                second: 4,
+            }
+        }
+        Kind::Intervals => {
+            schedule(s, &order.list, order.count);
+            okay(out, 0);
+            Answer {
+                number: 0,
+                second: 4,
+            }
+        }
+        Kind::Bad => {
+            Answer {
+                number: 5,
+                second: 0,
+            }
+        }
+    }
+}
+
+// An AT line.
+pub fn command(s: &mut [u32], line: &[u8], out: &mut [u8]) -> Answer
+    ensures { λ r. ⌜ CommandSays (now (s .entry)) (now (line .entry)) (now (out .entry)) r (now (s .exit)) (now (out .exit)) ⌝ }
+{
+    if out.len() < 16 {
+        return Answer {
+            number: 1,
+            second: 0,
+        };
+    }
+    if !buffer::is_good(s) {
+        return Answer {
+            number: 1,
+            second: 0,
+        };
+    }
+    command_in(s, line, out)
+}
