@@ -2,6 +2,7 @@
 use mathlib.Core.Path.{_≡_, refl, sym, ap, _∙_, subst}
 use mathlib.Core.Bool.{Bool, true, false, cond, and-false}
 use mathlib.Core.List.{List}
+use mathlib.Core.Logic.{_≢_}
 use Prim.Native.Nat.{ℕ, suc, _+_, _≤_, _<_}
 use native.Mathlib.Omega.{arith}
 use lib.Dec.{lit<, leb, eqb}
@@ -18,7 +19,7 @@ use Rattle.buffer.proofs.Laying.{length-pad}
 use Rattle.buffer.proofs.Goodness.{valid-view}
 use Rattle.buffer.proofs.Sane.{valid-facts}
 use Rattle.outcome.specs.Outcome.{stored, clear}
-use Rattle.clock.specs.Call.{Says}
+use Rattle.clock.specs.Call.{callAnswer, Says}
 use Rattle.clock.proofs.Saying.{moves, says-good, says-refused}
 use Rattle.text.proofs.Choice.{absurd-bool}
 use Rattle.at.specs.Lines.{readLine}
@@ -154,6 +155,21 @@ module _ (b : List ℕ) (g : good b ≡ true) (line room : List ℕ) where
   unfolding ruling refusal
   did-bad e = rw e (says-refused b g (typed bad) (answer 5 0) refl refl, refl)
 
+-- on a good state only what is no order is answered by another number than 0
+only-bad : (b : List ℕ) → good b ≡ true → (line : List ℕ) → callAnswer b (typed (readLine line)) .number ≢ 0 → readLine line ≡ bad
+unfolding callAnswer ruling verdict
+only-bad b g line h = go (readLine line) refl
+  where
+    ok : (l : Line) → readLine line ≡ l → isBad l ≡ false → verdict (view b) (typed l) .number ≡ 0 → readLine line ≡ bad
+    ok l e n v = absurd (h (rw (g, e, taken line l e n (factsOf b)) v))
+
+    go : (l : Line) → readLine line ≡ l → readLine line ≡ bad
+    go query e = ok query e refl refl
+    go (nfm a) e = ok (nfm a) e refl refl
+    go (nfm-start a s) e = ok (nfm-start a s) e refl refl
+    go (intervals l) e = ok (intervals l) e refl refl
+    go bad e = e
+
 -- the two refusals of the whole call, and a line that is heard
 module _ {b line room : List ℕ} where
   pub says-room : leb 16 (length room) ≡ false → CommandSays b line room (answer 1 0) b room
@@ -168,3 +184,24 @@ module _ {b line room : List ℕ} where
       → y ≡ over room 0 (reply (factsOf b) (readLine line)) → CommandSays b line room r x y
   unfolding heard
   says-heard g h d w = record { answered = rw (g, h) (d .answered); left = rw (g, h) (d .left); written = rw (g, h) w }
+
+  -- and what a caller has of a line on a good state: as any call, or nothing where the room is short
+  pub heard-says : {r : Answer} {x y : List ℕ} → good b ≡ true → leb 16 (length room) ≡ true → CommandSays b line room r x y → Says b (typed (readLine line)) r x
+  unfolding heard
+  heard-says g h s = record { answered = s .answered ∙ rw (g, h); left = s .left ∙ rw (g, h) }
+
+  pub unheard-left : {r : Answer} {x y : List ℕ} → leb 16 (length room) ≡ false → CommandSays b line room r x y → x ≡ b
+  unfolding heard
+  unheard-left h s = s .left ∙ rw (h, and-false (good b))
+
+  -- a refused line leaves both
+  pub refused-line : {r : Answer} {x y : List ℕ} → CommandSays b line room r x y → r .number ≢ 0 → (x ≡ b) × (y ≡ room)
+  unfolding heard
+  refused-line {r} {x} {y} s h = go (good b) refl (leb 16 (length room)) refl
+    where
+      go : (g : Bool) → good b ≡ g → (k : Bool) → leb 16 (length room) ≡ k → (x ≡ b) × (y ≡ room)
+      go false e k d = (s .left ∙ rw e, s .written ∙ rw e)
+      go true e false d = (s .left ∙ rw (e, d), s .written ∙ rw (e, d))
+      go true e true d =
+          let p = did-bad b e line room (only-bad b e line (λ z. h (ap (λ (a : Answer). a .number) (heard-says e d s .answered) ∙ z))) in
+          (s .left ∙ rw (e, d) (sym (p .0 .left)), s .written ∙ rw (e, d) (sym (p .1)))

@@ -14,6 +14,8 @@ use Rattle.card.specs.Card.{written}
 use Rattle.clock.specs.Call.{callAnswer, callAfter, Says}
 use Rattle.opening.specs.Open.{Order, openNumber, openAfter, OpenSays}
 use Rattle.saving.specs.Save.{saves, SaveSays}
+use Rattle.command.specs.Command.{CommandSays}
+use Rattle.command.proofs.Lined.{refused-line}
 
 pub call-refused : (b : List ℕ) (c : Call) (r : Answer) (x : List ℕ) → Says b c r x → refused r ≡ true → x ≡ b
 unfolding callAnswer callAfter
@@ -34,3 +36,7 @@ save-refused b room r x y s h = (s .left, s .room ∙ go (saves b room) (ap (λ 
     go : (w : Bool) → r .number ≡ (cond w (answer 0 32) (answer 1 0)) .number → cond w (written (factsOf b .counters)) room ≡ room
     go true e = absurd (h e)
     go false e = refl
+
+-- a line that is refused leaves the state and the room
+pub command-refused : (b line room : List ℕ) (r : Answer) (x y : List ℕ) → CommandSays b line room r x y → r .number ≢ 0 → (x ≡ b) × (y ≡ room)
+command-refused b line room r x y s h = refused-line s h

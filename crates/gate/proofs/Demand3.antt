@@ -8,7 +8,7 @@ use lib.Dec.{leb, eqb}
 use lib.ListN.{length}
 use borrow.Author.Tests.{eq-eqb}
 use Rattle.rules.specs.declared.Answer.{Answer}
-use Rattle.rules.specs.Calls.{Given, Call}
+use Rattle.rules.specs.Calls.{Given, Call, typed}
 use Rattle.rules.specs.Tables.{highestTime}
 use Rattle.rules.specs.Rules.{State, ruling, fresh, short, step, held}
 use Rattle.rules.specs.Told.{tells, ruled, told}
@@ -23,7 +23,10 @@ use Rattle.clock.specs.Call.{callAnswer, callAfter, Says}
 use Rattle.clock.proofs.Saying.{after-is, answer-is}
 use Rattle.opening.specs.Open.{Order, settings, files, openNumber, givenBy, openAfter, OpenSays}
 use Rattle.opening.proofs.Opened.{opened-bytes, opened-valid}
-use Rattle.gate.specs.History.{Doing, Typed, opened, called, saved, Run, done, then, accepts, Since, since}
+use Rattle.at.specs.Lines.{readLine}
+use Rattle.command.specs.Command.{CommandSays}
+use Rattle.command.proofs.Lined.{heard-says, unheard-left}
+use Rattle.gate.specs.History.{Doing, Typed, opened, called, obeyed, saved, Run, done, then, accepts, Since, since}
 
 -- the buffer b holds what the calls cs since an opening by g leave
 record Kept (g : Given) (cs : List Call) (b : List ℕ) : Type 0 where
@@ -109,10 +112,22 @@ opening-kept g cs b o r y next x k t s go = by (accepts o) refl
     by true e = go (givenBy o) [] (opened-kept b o r y t (number-ok b long o e) s)
     by false e = go g cs (kept-as k (s .left ∙ rw (number-no b long o e)))
 
+-- after an AT line, read or not
+typing-kept : (g : Given) (cs : List Call) (b line room : List ℕ) (r : Answer) (y z : List ℕ) (next : List Call → Since) (x : List ℕ)
+    → Kept g cs b → CommandSays b line room r y z → ((es : List Call) → Kept g es y → Kept (next es .given) (next es .before) x)
+    → Kept ((cond (leb 16 (length room)) (next (cs ++ (typed (readLine line) ∷ []))) (next cs)) .given) ((cond (leb 16 (length room)) (next (cs ++ (typed (readLine line) ∷ []))) (next cs)) .before) x
+typing-kept g cs b line room r y z next x k s go = by (leb 16 (length room)) refl
+  where
+    by : (a : Bool) → leb 16 (length room) ≡ a → Kept ((cond a (next (cs ++ (typed (readLine line) ∷ []))) (next cs)) .given) ((cond a (next (cs ++ (typed (readLine line) ∷ []))) (next cs)) .before) x
+    by true e = go (cs ++ (typed (readLine line) ∷ [])) (kept-called g cs b k (typed (readLine line)) r y (heard-says (kept-good g cs b k) e s))
+    by false e = go cs (kept-as k (unheard-left e s))
+
 run-kept : (g : Given) (cs : List Call) {b x : List ℕ} {ds : List Doing} {rs : List Answer} → Kept g cs b → Run b ds rs x
     → Kept (since g cs ds .given) (since g cs ds .before) x
 run-kept g cs k done = k
 run-kept g cs {b = b} k (then (called {c = c} {r = r} {x = y} s) q) = run-kept g (cs ++ (c ∷ [])) (kept-called g cs b k c r y s) q
+run-kept g cs {b = b} {x = x} k (then {ds = ds} (obeyed {line = line} {room = room} {r = r} {x = y} {y = z} s) q) =
+    typing-kept g cs b line room r y z (λ es. since g es ds) x k s (λ es m. run-kept g es m q)
 run-kept g cs k (then (saved s) q) = run-kept g cs (kept-as k (s .left)) q
 run-kept g cs {b = b} {x = x} k (then {ds = ds} (opened {o = o} {r = r} {x = y} t s) q) =
     opening-kept g cs b o r y (λ h es. since h es ds) x k t s (λ h es m. run-kept h es m q)

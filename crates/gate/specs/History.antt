@@ -5,18 +5,22 @@ use mathlib.Core.Bool.{Bool, true, cond, _&&_}
 use mathlib.Core.List.{List, [], _∷_, _++_}
 use Prim.Native.Nat.{ℕ}
 use lib.Dec.{leb}
+use lib.ListN.{length}
 use Rattle.rules.specs.declared.Answer.{Answer}
-use Rattle.rules.specs.Calls.{Given, Call}
+use Rattle.rules.specs.Calls.{Given, Call, typed}
 use Rattle.rules.specs.Tables.{highestTime}
 use Rattle.buffer.specs.Good.{bytes}
 use Rattle.clock.specs.Call.{Says}
 use Rattle.opening.specs.Open.{Order, settings, files, givenBy, OpenSays}
 use Rattle.saving.specs.Save.{SaveSays}
+use Rattle.at.specs.Lines.{readLine}
+use Rattle.command.specs.Command.{CommandSays}
 
--- a call on the buffer: an opening; a request, an outcome, the clock call or an AT line; the counter file, with its room
+-- a call on the buffer: an opening; a request, an outcome or the clock call; an AT line, with its room; the counter file, with its room
 pub data Doing : Type 0 where
   opens : Order → Doing
   calls : Call → Doing
+  types : (line room : List ℕ) → Doing
   saves : (room : List ℕ) → Doing
 
 -- what the argument's type says: a file is bytes
@@ -29,6 +33,7 @@ pub record Typed (o : Order) : Type 0 where
 pub data Done (b : List ℕ) : Doing → Answer → List ℕ → Type 0 where
   opened : {o : Order} {r : Answer} {x : List ℕ} → Typed o → OpenSays b o r x → Done b (opens o) r x
   called : {c : Call} {r : Answer} {x : List ℕ} → Says b c r x → Done b (calls c) r x
+  obeyed : {line room : List ℕ} {r : Answer} {x y : List ℕ} → CommandSays b line room r x y → Done b (types line room) r x
   saved : {room : List ℕ} {r : Answer} {x y : List ℕ} → SaveSays b room r x y → Done b (saves room) r x
 
 -- doings one after the other, from the buffer b to the buffer x, with their answers
@@ -40,7 +45,7 @@ pub data Run : List ℕ → List Doing → List Answer → List ℕ → Type 0 w
 unfoldable pub accepts : Order → Bool
 accepts o = settings o && files o && leb (o .time) highestTime
 
--- since the last accepted opening: what it was given, and the calls after it, the oldest first
+-- since the last accepted opening: what it was given, and the calls after it, the oldest first; a line whose room is under 16 bytes is not read
 pub record Since : Type 0 where
   pub given : Given
   pub before : List Call
@@ -49,4 +54,5 @@ abbrev pub since : Given → List Call → List Doing → Since
 since g cs [] = record { given = g; before = cs }
 since g cs (opens o ∷ ds) = cond (accepts o) (since (givenBy o) [] ds) (since g cs ds)
 since g cs (calls c ∷ ds) = since g (cs ++ (c ∷ [])) ds
+since g cs (types line room ∷ ds) = cond (leb 16 (length room)) (since g (cs ++ (typed (readLine line) ∷ [])) ds) (since g cs ds)
 since g cs (saves room ∷ ds) = since g cs ds

@@ -1,13 +1,15 @@
 // The gate: every call of Dialchisel under one name, on a state of 1,330 numbers that the caller lends. Every call accepts every input: a
 // state of any length and contents, any number, any file and room. A refusal changes nothing in any of them.
 //
-// What each call promises is a relation between what it was given, what it answers and what it leaves: `OpenSays`, `Says` and `SaveSays`.
+// What each call promises is a relation between what it was given, what it answers and what it leaves: `OpenSays`, `Says`,
+// `CommandSays` and `SaveSays`.
 // Each allows one result only.
 use rules::Answer;
 ghost use Rattle.rules.specs.Calls.{timed, ask, granted, silent, rejected, dropped, tick};
 ghost use Rattle.clock.specs.Call.{Says};
 ghost use Rattle.opening.specs.Open.{order, OpenSays};
 ghost use Rattle.saving.specs.Save.{SaveSays};
+ghost use Rattle.command.specs.Command.{CommandSays};
 
 // Opens the state: a new record begins. 1 for a state that is not 1,330 numbers, 2 for a setting or file out of range, 3 for the time.
 pub fn open(
@@ -80,6 +82,14 @@ pub fn tick(state: &mut [u32], time: u32) -> Answer
     ensures { λ r. ⌜ Says (now (state .entry)) (timed time tick) r (now (state .exit)) ⌝ }
 {
     clock::tick(state, time)
+}
+
+// An AT line, its CR included: what it says is done, and its answer is written to the room, of at least 16 bytes. The second number is the bytes
+// written.
+pub fn command(state: &mut [u32], line: &[u8], out: &mut [u8]) -> Answer
+    ensures { λ r. ⌜ CommandSays (now (state .entry)) (now (line .entry)) (now (out .entry)) r (now (state .exit)) (now (out .exit)) ⌝ }
+{
+    command::command(state, line, out)
 }
 
 // Writes the counter file to exactly 32 bytes of room.
