@@ -1,7 +1,7 @@
 -- The lines that give an order are exactly the prints of the valid orders, and the rules take every such order. Assumes nothing.
 use Prim.Native.Nat.{ℕ, zero, suc, _+_, _*_, _≤_, _<_}
 use mathlib.Core.Path.{_≡_, refl, sym, ap, _∙_, subst}
-use mathlib.Core.Bool.{Bool, true, false, _&&_}
+use mathlib.Core.Bool.{Bool, true, false, _&&_, cond}
 use mathlib.Core.List.{List, [], _∷_, _++_, append-assoc, append-nil}
 use mathlib.Core.Logic.{_⊎_, inl, inr}
 use native.Mathlib.Omega.{arith}
@@ -11,7 +11,7 @@ use lib.Dec.{ltb, leb, eqb, lit<}
 use borrow.Author.Tests.{le-leb, ltb-true, leb-true, eqb-true}
 use Rattle.text.specs.Number.{digitOf, Part, got, none, digits, num}
 use Rattle.text.specs.Printed.{dec, printNum, After}
-use Rattle.text.proofs.Choice.{pick-by, absurd-bool}
+use Rattle.text.proofs.Choice.{cond-by, absurd-bool}
 use Rattle.text.proofs.Printed.{below, num-print, num-said, dec-short}
 use Rattle.rules.specs.Calls.{Line, query, nfm, nfm-start, intervals, bad, typed}
 use Rattle.rules.specs.Tables.{ascending, scheduled}
@@ -61,22 +61,22 @@ starts-word [] l e = refl
 starts-word (x ∷ w) [] e = absurd-bool e
 starts-word (x ∷ w) (y ∷ l) e =
     let ih = starts-word w l in
-    pick-by (λ (r : Bool). r ≡ true → y ∷ l ≡ x ∷ (w ++ drop (length w) l)) (eqb y x) {x = starts w l} {y = false}
+    cond-by (λ (r : Bool). r ≡ true → y ∷ l ≡ x ∷ (w ++ drop (length w) l)) (eqb y x) {x = starts w l} {y = false}
     (λ p q. let a = eqb-true y x p in let b = ih q in cc) (λ p q. absurd-bool q) e
 
 ends-word : (w l : List ℕ) → ends w l ≡ true → l ≡ w
 unfolding ends
 ends-word w l e =
-    pick-by (λ (r : Bool). r ≡ true → l ≡ w) (starts w l) {x = leb (length l) (length w)} {y = false}
+    cond-by (λ (r : Bool). r ≡ true → l ≡ w) (starts w l) {x = leb (length l) (length w)} {y = false}
     (λ p q. starts-word w l p ∙ (ap (λ (r : List ℕ). w ++ r) (drop-of-length-le l (leb-true _ _ q)) ∙ append-nil w)) (λ p q. absurd-bool q) e
 
 flag-word : (l : List ℕ) → flagOf l < 2 → l ≡ (48 + flagOf l) ∷ drop 1 l
 unfolding flagOf
 flag-word [] h = absurd (omega arith)
 flag-word (x ∷ l) h =
-    pick-by (λ (n : ℕ). n < 2 → x ∷ l ≡ (48 + n) ∷ l) (eqb x 48)
+    cond-by (λ (n : ℕ). n < 2 → x ∷ l ≡ (48 + n) ∷ l) (eqb x 48)
     (λ p _. let e = eqb-true x 48 p in cc)
-    (λ _. pick-by (λ (n : ℕ). n < 2 → x ∷ l ≡ (48 + n) ∷ l) (eqb x 49) (λ p _. let e = eqb-true x 49 p in cc) (λ _ k. absurd (omega arith))) h
+    (λ _. cond-by (λ (n : ℕ). n < 2 → x ∷ l ≡ (48 + n) ∷ l) (eqb x 49) (λ p _. let e = eqb-true x 49 p in cc) (λ _ k. absurd (omega arith))) h
 
 -- ---- Whatever is read is printed
 
@@ -92,12 +92,12 @@ flags-said : (l : List ℕ) → Said (at-nfm ++ l) (flags l)
 unfolding flags
 flags-said l =
     let P : Line → Type 0 = Said (at-nfm ++ l) in
-    pick-by P (ends ask l) (λ e. ap (λ (r : List ℕ). at-nfm ++ r) (ends-word ask l e)) (λ _.
-    pick-by P (ltb (flagOf l) 2) (λ f.
-    pick-by P (ends cr (drop 1 l)) (λ e. (ltb-true _ _ f, ap (λ (r : List ℕ). at-nfm ++ r) (flag-word l (ltb-true _ _ f) ∙ ap (λ (r : List ℕ). (48 + flagOf l) ∷ r) (ends-word cr (drop 1 l) e)))) (λ _.
-    pick-by P (starts comma (drop 1 l)) (λ k.
-    pick-by P (ltb (flagOf (drop 2 l)) 2) (λ g.
-    pick-by P (ends cr (drop 3 l)) (λ e. (
+    cond-by P (ends ask l) (λ e. ap (λ (r : List ℕ). at-nfm ++ r) (ends-word ask l e)) (λ _.
+    cond-by P (ltb (flagOf l) 2) (λ f.
+    cond-by P (ends cr (drop 1 l)) (λ e. (ltb-true _ _ f, ap (λ (r : List ℕ). at-nfm ++ r) (flag-word l (ltb-true _ _ f) ∙ ap (λ (r : List ℕ). (48 + flagOf l) ∷ r) (ends-word cr (drop 1 l) e)))) (λ _.
+    cond-by P (starts comma (drop 1 l)) (λ k.
+    cond-by P (ltb (flagOf (drop 2 l)) 2) (λ g.
+    cond-by P (ends cr (drop 3 l)) (λ e. (
       (ltb-true _ _ f, ltb-true _ _ g),
       ap (λ (r : List ℕ). at-nfm ++ r)
           (flag-word l (ltb-true _ _ f) ∙ ap (λ (r : List ℕ). (48 + flagOf l) ∷ r)
@@ -138,7 +138,7 @@ one-said : (k : ℕ) (l : List ℕ) (last : ℕ) (done : List ℕ) (part : Part)
 one-said k l last done none a ih = inl refl
 one-said k l last done (got v r) a ih =
     let P : List ℕ → Type 0 = Out (suc k) l last done in
-    pick-by P (leb last v) (λ h. pick-by P (ends cr r)
+    cond-by P (leb last v) (λ h. cond-by P (ends cr r)
     (λ p. inr (record {
       xs = v ∷ [];
       all = refl;
@@ -147,7 +147,7 @@ one-said k l last done (got v r) a ih =
       few = omega arith;
       rising = (leb-true last v h, a .1, tt);
     }))
-    (λ _. pick-by P (starts comma r) (λ q. one-more k l r last v done _ (a .0) (starts-word comma r q) (leb-true last v h) (a .1) (ih v (drop 1 r))) (λ _. inl refl))) (λ _. inl refl)
+    (λ _. cond-by P (starts comma r) (λ q. one-more k l r last v done _ (a .0) (starts-word comma r q) (leb-true last v h) (a .1) (ih v (drop 1 r))) (λ _. inl refl))) (λ _. inl refl)
 
 ints-said : (k : ℕ) (l : List ℕ) (last : ℕ) (done : List ℕ) → Out k l last done (ints k l last done)
 unfolding ints
@@ -166,8 +166,8 @@ line-said l ys e (inr x) = subst (λ (zs : List ℕ). Said l (intsLine zs)) (sym
 said : (l : List ℕ) → Said l (readLine l)
 unfolding readLine
 said l =
-    pick-by (Said l) (starts at-nfm l) (λ e. subst (λ (t : List ℕ). Said t (flags (drop 7 l))) (sym (starts-word at-nfm l e)) (flags-said (drop 7 l)))
-    (λ _. pick-by (Said l) (starts at-nfmci l) (λ e. line-said l _ (starts-word at-nfmci l e) (ints-said 10 (drop 9 l) 1 [])) (λ _. tt))
+    cond-by (Said l) (starts at-nfm l) (λ e. subst (λ (t : List ℕ). Said t (flags (drop 7 l))) (sym (starts-word at-nfm l e)) (flags-said (drop 7 l)))
+    (λ _. cond-by (Said l) (starts at-nfmci l) (λ e. line-said l _ (starts-word at-nfmci l e) (ints-said 10 (drop 9 l) 1 [])) (λ _. tt))
 
 -- ---- Read back as printed
 

@@ -3,10 +3,9 @@
 -- one before. Any other line is bad. That no line read is longer than 96 bytes is a law, `accepted` in proofs/RoundTrip. Assumes nothing.
 use Prim.Native.Nat.{ℕ, suc, zero, _+_}
 use mathlib.Core.List.{List, [], _∷_, _++_}
-use mathlib.Core.Bool.{Bool, true, false}
+use mathlib.Core.Bool.{Bool, true, false, cond}
 use lib.ListN.{drop, length}
 use lib.Dec.{leb, ltb, eqb}
-use Rattle.text.specs.Pick.{pick}
 use Rattle.text.specs.Number.{Part, got, none, num}
 use Rattle.rules.specs.Calls.{Line, query, nfm, nfm-start, intervals, bad}
 
@@ -14,11 +13,11 @@ use Rattle.rules.specs.Calls.{Line, query, nfm, nfm-start, intervals, bad}
 unfoldable pub starts : List ℕ → List ℕ → Bool
 starts [] l = true
 starts (x ∷ w) [] = false
-starts (x ∷ w) (y ∷ l) = pick (eqb y x) (starts w l) false
+starts (x ∷ w) (y ∷ l) = cond (eqb y x) (starts w l) false
 
 -- l is the word w and nothing after it
 unfoldable pub ends : List ℕ → List ℕ → Bool
-ends w l = pick (starts w l) (leb (length l) (length w)) false
+ends w l = cond (starts w l) (leb (length l) (length w)) false
 
 -- ---- The words
 
@@ -42,27 +41,27 @@ ask = 63 ∷ 13 ∷ []
 -- the flag at the front, or 2
 unfoldable pub flagOf : List ℕ → ℕ
 flagOf [] = 2
-flagOf (x ∷ l) = pick (eqb x 48) 0 (pick (eqb x 49) 1 2)
+flagOf (x ∷ l) = cond (eqb x 48) 0 (cond (eqb x 49) 1 2)
 
 -- what follows AT+NFM=
 unfoldable pub flags : List ℕ → Line
 flags l =
-    pick (ends ask l) query
-    (pick (ltb (flagOf l) 2)
-    (pick (ends cr (drop 1 l)) (nfm (flagOf l))
-    (pick (starts comma (drop 1 l))
-    (pick (ltb (flagOf (drop 2 l)) 2) (pick (ends cr (drop 3 l)) (nfm-start (flagOf l) (flagOf (drop 2 l))) bad) bad)
+    cond (ends ask l) query
+    (cond (ltb (flagOf l) 2)
+    (cond (ends cr (drop 1 l)) (nfm (flagOf l))
+    (cond (starts comma (drop 1 l))
+    (cond (ltb (flagOf (drop 2 l)) 2) (cond (ends cr (drop 3 l)) (nfm-start (flagOf l) (flagOf (drop 2 l))) bad) bad)
     bad))
     bad)
 
 -- after an interval: CR and nothing, or a comma and more
 abbrev pub afterInt : List ℕ → List ℕ → (List ℕ → List ℕ) → List ℕ
-afterInt all l go = pick (ends cr l) all (pick (starts comma l) (go (drop 1 l)) [])
+afterInt all l go = cond (ends cr l) all (cond (starts comma l) (go (drop 1 l)) [])
 
 -- an interval, and what follows it
 abbrev pub oneInt : Part → ℕ → List ℕ → (ℕ → List ℕ → List ℕ) → List ℕ
 oneInt none last done go = []
-oneInt (got v l) last done go = pick (leb last v) (afterInt (done ++ (v ∷ [])) l (go v)) []
+oneInt (got v l) last done go = cond (leb last v) (afterInt (done ++ (v ∷ [])) l (go v)) []
 
 -- at most k more intervals, none below last, after those done; [] where the list is refused
 unfoldable pub ints : ℕ → List ℕ → ℕ → List ℕ → List ℕ
@@ -76,8 +75,8 @@ intsLine (x ∷ xs) = intervals (x ∷ xs)
 
 -- what a line says
 unfoldable pub readLine : List ℕ → Line
-readLine l = pick (starts at-nfm l) (flags (drop 7 l)) (pick (starts at-nfmci l) (intsLine (ints 10 (drop 9 l) 1 [])) bad)
+readLine l = cond (starts at-nfm l) (flags (drop 7 l)) (cond (starts at-nfmci l) (intsLine (ints 10 (drop 9 l) 1 [])) bad)
 
 -- the place after that of a byte; a place past the end stays
 abbrev pub placeAfter : List ℕ → ℕ → ℕ
-placeAfter l at = pick (ltb at (length l)) (at + 1) at
+placeAfter l at = cond (ltb at (length l)) (at + 1) at

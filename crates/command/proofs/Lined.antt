@@ -1,23 +1,25 @@
 -- What a line does to a good buffer, and what the call says in each of its cases. Assumes nothing.
 use mathlib.Core.Path.{_≡_, refl, sym, ap, _∙_, subst}
 use mathlib.Core.Bool.{Bool, true, false, cond, and-false}
-use mathlib.Core.List.{List}
+use mathlib.Core.List.{List, _++_}
 use mathlib.Core.Logic.{_≢_}
 use Prim.Native.Nat.{ℕ, suc, _+_, _≤_, _<_}
 use native.Mathlib.Omega.{arith}
 use lib.Dec.{lit<, leb, eqb}
 use lib.ListN.{length, getD, set}
+use lib.Seq.{sets, length-sets}
 use Rattle.rules.specs.declared.Answer.{Answer}
 use Rattle.rules.specs.Calls.{Line, query, nfm, nfm-start, intervals, bad, typed, answer}
 use Rattle.rules.specs.Rules.{Facts, ruling, refusal, refused, verdict, changed, obeyed, switched, adds, idle}
 use Rattle.buffer.specs.Places.{NFM, START}
-use Rattle.buffer.specs.Segments.{pad}
+use Rattle.buffer.specs.Segments.{pad, paste}
 use Rattle.buffer.specs.Layout.{rows, factsOf, view}
 use Rattle.buffer.specs.Good.{good}
 use Rattle.buffer.proofs.Laid.{Laid, withMode, withServices, all-four, laid-good, laid-as, laid-nfm, laid-start, laid-failures, laid-end, laid-intervals}
 use Rattle.buffer.proofs.Laying.{length-pad}
 use Rattle.buffer.proofs.Goodness.{valid-view}
 use Rattle.buffer.proofs.Sane.{valid-facts}
+use Rattle.opening.proofs.Copying.{stored as stores}
 use Rattle.outcome.specs.Outcome.{stored, clear}
 use Rattle.clock.specs.Call.{callAnswer, Says}
 use Rattle.clock.proofs.Saying.{moves, says-good, says-refused}
@@ -26,7 +28,7 @@ use Rattle.at.specs.Lines.{readLine}
 use Rattle.at.specs.Order.{ten, listOf}
 use Rattle.at.specs.Print.{Valid}
 use Rattle.at.proofs.RoundTrip.{from-scheduled, accepted, read-accepted}
-use Rattle.command.specs.Command.{okay, reply, over, calmed, turned, timedBy, heard, CommandSays}
+use Rattle.command.specs.Command.{okay, shown, reply, calmed, turned, timedBy, heard, CommandSays}
 
 abbrev quiet : Facts → Facts
 quiet f = withServices f idle idle (f .services .standing) (f .services .mood)
@@ -73,12 +75,21 @@ module _ (b : List ℕ) (g : good b ≡ true) (l : Line) (h : refusal (factsOf b
   says-line a v n d = says-good b g (typed l) a (rules-on ∙ v) (d .is ∙ sym (moves b g (typed l) a (rules-on ∙ v) n (λ k. refl)))
 
 -- OK written from a place on, as the code counts places
-pub okay-at : (room : List ℕ) (i : ℕ) → set (set (set (set room i 79) (i + 1) 75) (i + 2) 13) (i + 3) 10 ≡ over room i okay
-okay-at room i =
+pub okay-at : (room : List ℕ) (i : ℕ) → i + 4 ≤ length room → set (set (set (set room i 79) (i + 1) 75) (i + 2) 13) (i + 3) 10 ≡ paste room i okay
+okay-at room i h =
     let one : i + 1 ≡ suc i = omega arith in
     let two : i + 2 ≡ suc (suc i) = omega arith in
     let three : i + 3 ≡ suc (suc (suc i)) = omega arith in
-    rw (one, two, three)
+    rw (one, two, three) (stores room okay i h)
+
+-- NFM and Start Timer, then OK
+pub both-parts : (room : List ℕ) (a s : ℕ) → 15 ≤ length room → paste (paste room 0 (shown a s)) 11 okay ≡ paste room 0 (shown a s ++ okay)
+both-parts room a s h =
+    let first = stores room (shown a s) 0 (omega arith) in
+    let long = length-sets room 0 (shown a s) in
+    ap (λ (l : List ℕ). paste l 11 okay) (sym first)
+    ∙ sym (stores (sets room 0 (shown a s)) okay 11 (omega (arith, long)))
+    ∙ stores room (shown a s ++ okay) 0 h
 
 -- NFM and Start Timer of a good state are flags
 module _ (b : List ℕ) (g : good b ≡ true) where
@@ -127,32 +138,32 @@ ten-long line = length-pad 10 (listOf (readLine line)) (few line)
 -- what each kind of line has to show on a good state
 module _ (b : List ℕ) (g : good b ≡ true) (line room : List ℕ) where
   abbrev Done : Answer → List ℕ → List ℕ → Type 0
-  Done r x y = Says b (typed (readLine line)) r x × (y ≡ over room 0 (reply (factsOf b) (readLine line)))
+  Done r x y = Says b (typed (readLine line)) r x × (y ≡ paste room 0 (reply (factsOf b) (readLine line)))
 
   done : (l : Line) → readLine line ≡ l → isBad l ≡ false → (a : Answer) {x y : List ℕ} → verdict (view b) (typed l) ≡ a → refused a ≡ false
-      → Laid x (obeyed l (factsOf b)) (rows (view b .lists)) → y ≡ over room 0 (reply (factsOf b) l) → Done a x y
+      → Laid x (obeyed l (factsOf b)) (rows (view b .lists)) → y ≡ paste room 0 (reply (factsOf b) l) → Done a x y
   done l e n a v r d w = rw e (says-line b g l (taken line l e n (factsOf b)) a v r d, w)
 
-  pub did-query : {y : List ℕ} → readLine line ≡ query → y ≡ over room 0 (reply (factsOf b) query) → Done (answer 0 15) b y
+  pub did-query : {y : List ℕ} → readLine line ≡ query → y ≡ paste room 0 (reply (factsOf b) query) → Done (answer 0 15) b y
   unfolding verdict obeyed
   did-query e w = done query e refl (answer 0 15) refl refl (laid-good b g) w
 
-  pub did-nfm : (a : ℕ) {s : ℕ} {x y : List ℕ} → readLine line ≡ nfm a → s ≡ getD b START 0 → x ≡ turned b a s → y ≡ over room 0 okay → Done (answer 0 4) x y
+  pub did-nfm : (a : ℕ) {s : ℕ} {x y : List ℕ} → readLine line ≡ nfm a → s ≡ getD b START 0 → x ≡ turned b a s → y ≡ paste room 0 okay → Done (answer 0 4) x y
   unfolding verdict obeyed factsOf
   did-nfm a e k d w = done (nfm a) e refl (answer 0 4) refl refl (laid-as (laid-turned (laid-good b g) a (getD b START 0)) (d ∙ ap (turned b a) k)) w
 
-  pub did-nfm-start : (a s : ℕ) {x y : List ℕ} → readLine line ≡ nfm-start a s → x ≡ turned b a s → y ≡ over room 0 okay → Done (answer 0 4) x y
+  pub did-nfm-start : (a s : ℕ) {x y : List ℕ} → readLine line ≡ nfm-start a s → x ≡ turned b a s → y ≡ paste room 0 okay → Done (answer 0 4) x y
   unfolding verdict obeyed
   did-nfm-start a s e d w = done (nfm-start a s) e refl (answer 0 4) refl refl (laid-as (laid-turned (laid-good b g) a s) d) w
 
-  pub did-intervals : (l : List ℕ) {x y : List ℕ} → readLine line ≡ intervals l → x ≡ timedBy b l → y ≡ over room 0 okay → Done (answer 0 4) x y
+  pub did-intervals : (l : List ℕ) {x y : List ℕ} → readLine line ≡ intervals l → x ≡ timedBy b l → y ≡ paste room 0 okay → Done (answer 0 4) x y
   unfolding verdict obeyed
   did-intervals l e d w =
       let h : length l ≤ 10 = subst (λ (m : Line). length (listOf m) ≤ 10) e (few line) in
       done (intervals l) e refl (answer 0 4) refl refl (laid-as (laid-intervals (laid-good b g) l h) d) w
 
   pub did-bad : readLine line ≡ bad → Done (answer 5 0) b room
-  unfolding ruling refusal
+  unfolding ruling refusal paste
   did-bad e = rw e (says-refused b g (typed bad) (answer 5 0) refl refl, refl)
 
 -- on a good state only what is no order is answered by another number than 0
@@ -181,7 +192,7 @@ module _ {b line room : List ℕ} where
   says-bad g = record { answered = rw g; left = rw g; written = rw g }
 
   pub says-heard : {r : Answer} {x y : List ℕ} → good b ≡ true → leb 16 (length room) ≡ true → Says b (typed (readLine line)) r x
-      → y ≡ over room 0 (reply (factsOf b) (readLine line)) → CommandSays b line room r x y
+      → y ≡ paste room 0 (reply (factsOf b) (readLine line)) → CommandSays b line room r x y
   unfolding heard
   says-heard g h d w = record { answered = rw (g, h) (d .answered); left = rw (g, h) (d .left); written = rw (g, h) w }
 

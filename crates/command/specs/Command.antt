@@ -2,7 +2,7 @@
 use mathlib.Core.Path.{_≡_}
 use mathlib.Core.Bool.{Bool, cond, _&&_}
 use mathlib.Core.List.{List, [], _∷_, _++_}
-use Prim.Native.Nat.{ℕ, suc, _+_}
+use Prim.Native.Nat.{ℕ, _+_}
 use lib.Dec.{eqb, leb}
 use lib.ListN.{length, set}
 use Rattle.rules.specs.declared.Answer.{Answer}
@@ -26,18 +26,13 @@ okay = 79 ∷ 75 ∷ 13 ∷ 10 ∷ []
 abbrev pub shown : ℕ → ℕ → List ℕ
 shown a s = 43 ∷ 78 ∷ 70 ∷ 77 ∷ 58 ∷ 32 ∷ (48 + a) ∷ 44 ∷ (48 + s) ∷ 13 ∷ 10 ∷ []
 
--- the answer to a line; a refused one has none
+-- the answer to a line, which is written from the front of the room; a refused one has none
 abbrev pub reply : Facts → Line → List ℕ
 reply f query = shown (f .mode .nfm) (f .mode .start) ++ okay
 reply f (nfm a) = okay
 reply f (nfm-start a s) = okay
 reply f (intervals l) = okay
 reply f bad = []
-
--- bytes written over a room from a place on; those beyond are left
-abbrev pub over : List ℕ → ℕ → List ℕ → List ℕ
-over room at [] = room
-over room at (x ∷ xs) = over (set room at x) (suc at) xs
 
 -- ---- The call
 
@@ -49,7 +44,7 @@ heard b room = good b && leb 16 (length room)
 pub record CommandSays (b line room : List ℕ) (r : Answer) (x y : List ℕ) : Type 0 where
   pub answered : r ≡ cond (heard b room) (callAnswer b (typed (readLine line))) (answer 1 0)
   pub left : x ≡ cond (heard b room) (callAfter b (typed (readLine line))) b
-  pub written : y ≡ cond (heard b room) (over room 0 (reply (factsOf b) (readLine line))) room
+  pub written : y ≡ cond (heard b room) (paste room 0 (reply (factsOf b) (readLine line))) room
 
 -- ---- Its parts
 

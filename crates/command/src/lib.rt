@@ -8,12 +8,13 @@ ghost use Prim.Native.Nat.{_+_, _<_, _≤_};
 ghost use lib.ListN.{length, take};
 ghost use Rattle.rules.specs.Calls.{typed, query};
 ghost use Rattle.buffer.specs.Places.{SIZE};
+ghost use Rattle.buffer.specs.Segments.{paste};
 ghost use Rattle.buffer.specs.Layout.{factsOf};
 ghost use Rattle.buffer.specs.Good.{good};
 ghost use Rattle.outcome.specs.Outcome.{stored, clear};
 ghost use Rattle.clock.specs.Call.{Says};
 ghost use Rattle.at.specs.Lines.{readLine};
-ghost use Rattle.command.specs.Command.{calmed, turned, timedBy, okay as okayBytes, shown, reply, over, CommandSays};
+ghost use Rattle.command.specs.Command.{calmed, turned, timedBy, okay as okayBytes, shown, reply, CommandSays};
 
 // Service i has no failure and no end.
 fn calm(s: &mut [u32], i: usize)
@@ -61,7 +62,7 @@ fn schedule(s: &mut [u32], list: &[u32], n: usize)
 // OK CR LF, from a place on.
 fn okay(out: &mut [u8], i: usize)
     requires { ⌜ i + 4 ≤ length (now out) ⌝ }
-    ensures { λ _. ⌜ now (out .exit) ≡ over (now (out .entry)) i okayBytes ⌝ }
+    ensures { λ _. ⌜ now (out .exit) ≡ paste (now (out .entry)) i okayBytes ⌝ }
 {
     out[i] = b'O';
     out[i + 1] = b'K';
@@ -73,7 +74,7 @@ fn okay(out: &mut [u8], i: usize)
 fn told(out: &mut [u8], a: u8, s: u8)
     requires { ⌜ 11 ≤ length (now out) ⌝ }
     requires { ⌜ (a ≤ 1) × (s ≤ 1) ⌝ }
-    ensures { λ _. ⌜ now (out .exit) ≡ over (now (out .entry)) 0 (shown a s) ⌝ }
+    ensures { λ _. ⌜ now (out .exit) ≡ paste (now (out .entry)) 0 (shown a s) ⌝ }
 {
     out[0] = b'+';
     out[1] = b'N';
@@ -93,7 +94,7 @@ fn show(s: &[u32], out: &mut [u8])
     requires { ⌜ length (now s) ≡ SIZE ⌝ }
     requires { ⌜ good (now s) ≡ true ⌝ }
     requires { ⌜ 16 ≤ length (now out) ⌝ }
-    ensures { λ _. ⌜ now (out .exit) ≡ over (now (out .entry)) 0 (reply (factsOf (now (s .entry))) query) ⌝ }
+    ensures { λ _. ⌜ now (out .exit) ≡ paste (now (out .entry)) 0 (reply (factsOf (now (s .entry))) query) ⌝ }
 {
     told(out, fields::nfm(s) as u8, fields::start(s) as u8);
     okay(out, 11);
@@ -104,7 +105,7 @@ pub fn command_in(s: &mut [u32], line: &[u8], out: &mut [u8]) -> Answer
     requires { ⌜ length (now s) ≡ SIZE ⌝ }
     requires { ⌜ good (now s) ≡ true ⌝ }
     requires { ⌜ 16 ≤ length (now out) ⌝ }
-    ensures { λ r. ⌜ Says (now (s .entry)) (typed (readLine (now (line .entry)))) r (now (s .exit)) × (now (out .exit) ≡ over (now (out .entry)) 0 (reply (factsOf (now (s .entry))) (readLine (now (line .entry))))) ⌝ }
+    ensures { λ r. ⌜ Says (now (s .entry)) (typed (readLine (now (line .entry)))) r (now (s .exit)) × (now (out .exit) ≡ paste (now (out .entry)) 0 (reply (factsOf (now (s .entry))) (readLine (now (line .entry))))) ⌝ }
 {
     let order = at::read(line);
     let kind = order.kind;

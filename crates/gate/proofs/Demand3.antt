@@ -138,6 +138,8 @@ run-kept g cs {b = b} {x = x} k (then {ds = ds} (opened {o = o} {r = r} {x = y} 
 pub record OnTheBuffer (g : Given) (before : List Call) (x : List ℕ) : Type 0 where
   -- whatever a call's promise allows as its answer is the rules' answer over the record
   pub next : (c : Call) (r : Answer) (y : List ℕ) → Says x c r y → r ≡ ruled g (told g before) c
+  -- so of an AT line, by the promise of its own call
+  pub next-line : (line room : List ℕ) (r : Answer) (y z : List ℕ) → leb 16 (length room) ≡ true → CommandSays x line room r y z → r ≡ ruled g (told g before) (typed (readLine line))
   -- the sentences of demand 3
   pub demand : Demand3 g before (λ c. callAnswer x c)
   -- the 1,330 places are what the record tells, each list cut to its newest 255
@@ -151,6 +153,7 @@ on-the-buffer g before x k =
     λ c. ap (λ (y : List ℕ). callAnswer y c) (k .is) ∙ answer-lay v (k .valid) c ∙ demand-3 g (k .bytes) before .as-the-record c in
     record {
       next = λ c r y s. s .answered ∙ same c;
+      next-line = λ line room r y z h s. heard-says (kept-good g before x k) h s .answered ∙ same (typed (readLine line));
       demand = as-the-rules g before (λ c. callAnswer x c) same;
       places = k .is ∙ ap (λ (w : State). lay w) (held-told g (k .bytes) before);
       stays-good = kept-good g before x k;

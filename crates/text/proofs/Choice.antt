@@ -1,14 +1,13 @@
 -- A choice, by what its test says. Assumes nothing.
 use Prim.Native.Nat.{ℕ}
 use mathlib.Core.Path.{_≡_, refl}
-use mathlib.Core.Bool.{Bool, true, false}
+use mathlib.Core.Bool.{Bool, true, false, cond}
 use native.Mathlib.Omega.{arith}
-use Rattle.text.specs.Pick.{pick}
 
 -- what holds on each side of a choice holds of the choice
-pub pick-by : {A : Type 0} (P : A → Type 0) (b : Bool) {x y : A} → (b ≡ true → P x) → (b ≡ false → P y) → P (pick b x y)
-pick-by P true f g = f refl
-pick-by P false f g = g refl
+pub cond-by : {A : Type 0} (P : A → Type 0) (b : Bool) {x y : A} → (b ≡ true → P x) → (b ≡ false → P y) → P (cond b x y)
+cond-by P true f g = f refl
+cond-by P false f g = g refl
 
 -- a test that fails does not hold
 pub absurd-bool : {P : Type 0} → false ≡ true → P

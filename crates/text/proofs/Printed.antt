@@ -1,4 +1,5 @@
 -- A printed number is read back, and what is read is the print of a number. Assumes nothing.
+use mathlib.Core.Bool.{cond}
 use Prim.Native.Nat.{ℕ, zero, suc, _+_, _*_, _/_, _%_, _^_, _≤_, _<_}
 use mathlib.Core.Path.{_≡_, refl, sym, ap, _∙_, subst}
 use mathlib.Core.List.{List, [], _∷_, _++_, append-assoc}
@@ -9,7 +10,7 @@ use lib.Dec.{ltb, leb, eqb}
 use borrow.Author.Tests.{lt-ltb, le-ltb, le-leb, ne-eqb, ltb-true, ltb-false, leb-true, eqb-true, eqb-false}
 use Rattle.text.specs.Number.{digitOf, Part, got, digits, num}
 use Rattle.text.specs.Printed.{dec, printNum, Stops, After}
-use Rattle.text.proofs.Choice.{pick-by}
+use Rattle.text.proofs.Choice.{cond-by}
 
 -- ---- Digits
 
@@ -26,12 +27,12 @@ digit-byte d h = rw (le-ltb (48 + d) 48 (omega arith), le-ltb 57 (48 + d) (omega
 pub byte-digit : (x : ℕ) → digitOf x < 10 → x ≡ 48 + digitOf x
 unfolding digitOf
 byte-digit x h =
-    pick-by (λ (n : ℕ). n < 10 → x ≡ 48 + n) (ltb x 48) (λ _ k. absurd (omega arith))
-    (λ p. pick-by (λ (n : ℕ). n < 10 → x ≡ 48 + n) (ltb 57 x) (λ _ k. absurd (omega arith)) (λ _ k. let a = ltb-false x 48 p in omega arith)) h
+    cond-by (λ (n : ℕ). n < 10 → x ≡ 48 + n) (ltb x 48) (λ _ k. absurd (omega arith))
+    (λ p. cond-by (λ (n : ℕ). n < 10 → x ≡ 48 + n) (ltb 57 x) (λ _ k. absurd (omega arith)) (λ _ k. let a = ltb-false x 48 p in omega arith)) h
 
 -- by whether n is a digit
 pub by-ten : {P : Type 0} (n : ℕ) → (n < 10 → P) → (10 ≤ n → P) → P
-by-ten {P} n f g = pick-by (λ (_ : ℕ). P) (ltb n 10) {x = 0} {y = 0} (λ e. f (ltb-true n 10 e)) (λ e. g (ltb-false n 10 e))
+by-ten {P} n f g = cond-by (λ (_ : ℕ). P) (ltb n 10) {x = 0} {y = 0} (λ e. f (ltb-true n 10 e)) (λ e. g (ltb-false n 10 e))
 
 module _ (k n : ℕ) where
   pub dec-one : n < 10 → dec (suc k) n ≡ (48 + n) ∷ []
@@ -99,7 +100,7 @@ digits-said most lim [] v a b = (refl, b)
 digits-said most lim (x ∷ l) v a b =
     let P : Part → Type 0 = After most (printNum v ++ (x ∷ l)) in
     let d = digitOf x in
-    pick-by P (ltb d 10) (λ p. pick-by P (leb (v * 10 + d) most)
+    cond-by P (ltb d 10) (λ p. cond-by P (leb (v * 10 + d) most)
     (λ q. let h = ltb-true d 10 p in let k = leb-true (v * 10 + d) most q in
     subst (λ (t : List ℕ). After most t (digits most l (v * 10 + d)))
     (ap (λ (t : List ℕ). t ++ l) (print-more v d a h (omega arith)) ∙ (append-assoc (printNum v) ((48 + d) ∷ []) l ∙ ap (λ (y : ℕ). printNum v ++ (y ∷ l)) (sym (byte-digit x h))))
@@ -112,9 +113,9 @@ num-said most lim [] = tt
 num-said most lim (x ∷ l) =
     let P : Part → Type 0 = After most (x ∷ l) in
     let d = digitOf x in
-    pick-by P (ltb d 10) (λ p. let h = ltb-true d 10 p in let e = byte-digit x h in
-    pick-by P (eqb d 0) (λ z. (ap (λ (y : ℕ). y ∷ l) (e ∙ ap (λ (n : ℕ). 48 + n) (eqb-true d 0 z)) ∙ ap (λ (t : List ℕ). t ++ l) (sym (dec-one 19 0 (omega arith))), omega arith))
-    (λ z. pick-by P (leb d most) (λ q. subst (λ (t : List ℕ). After most t (digits most l d))
+    cond-by P (ltb d 10) (λ p. let h = ltb-true d 10 p in let e = byte-digit x h in
+    cond-by P (eqb d 0) (λ z. (ap (λ (y : ℕ). y ∷ l) (e ∙ ap (λ (n : ℕ). 48 + n) (eqb-true d 0 z)) ∙ ap (λ (t : List ℕ). t ++ l) (sym (dec-one 19 0 (omega arith))), omega arith))
+    (λ z. cond-by P (leb d most) (λ q. subst (λ (t : List ℕ). After most t (digits most l d))
     (ap (λ (t : List ℕ). t ++ l) (dec-one 19 d h) ∙ ap (λ (y : ℕ). y ∷ l) (sym e)) (digits-said most lim l d (pos d (eqb-false d 0 z)) (leb-true d most q))) (λ _. tt))) (λ _. tt)
   where
     pos : (d : ℕ) → (d ≡ 0 → ⊥) → 1 ≤ d

@@ -1,3 +1,2 @@
-pub mod Pick
 pub mod Number
 pub mod Printed

@@ -1,15 +1,15 @@
 -- How a number is printed, and what the reading of one says of the text. Assumes nothing.
+use mathlib.Core.Bool.{cond}
 use Prim.Native.Nat.{ℕ, zero, suc, _+_, _/_, _%_, _≤_, _<_}
 use mathlib.Core.Path.{_≡_}
 use mathlib.Core.List.{List, [], _∷_, _++_}
 use lib.Dec.{ltb}
-use Rattle.text.specs.Pick.{pick}
 use Rattle.text.specs.Number.{digitOf, Part, got, none}
 
 -- the decimal digits of n, at most k of them
 unfoldable pub dec : ℕ → ℕ → List ℕ
 dec zero n = []
-dec (suc k) n = let r = dec k (n / 10) in pick (ltb n 10) ((48 + n) ∷ []) (r ++ ((48 + n % 10) ∷ []))
+dec (suc k) n = let r = dec k (n / 10) in cond (ltb n 10) ((48 + n) ∷ []) (r ++ ((48 + n % 10) ∷ []))
 
 -- the print of a number below 10 ^ 20
 abbrev pub printNum : ℕ → List ℕ

@@ -31,7 +31,7 @@ same-length : tie.Need-same-length
 same-length c = simp length-set
 
 returns : tie.Need-returns
-returns c = okay-at (c .args .out .now) (c .args .i)
+returns c = okay-at (c .args .out .now) (c .args .i) (c .pre)
 
 pub okay-spec : {M : Type 1} → statement M
 okay-spec =

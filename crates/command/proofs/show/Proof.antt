@@ -1,7 +1,7 @@
 -- `command::show` meets its contract. Assumes nothing.
 use native.Mathlib.Omega.{arith}
 use Rattle.buffer.specs.Layout.{factsOf}
-use Rattle.command.proofs.Lined.{nfm-flag, start-flag}
+use Rattle.command.proofs.Lined.{both-parts, nfm-flag, start-flag}
 use borrow.Author.Needs.{needs}
 use Rattle.command.proofs.show.Statement.{statement}
 use Rattle.command.proofs.show.Tie as tie
@@ -29,7 +29,11 @@ same-length c = search needs
 
 returns : tie.Need-returns
 unfolding factsOf
-returns c = cc
+returns c =
+    let x = c .before .before .before .before .before .before .before .before .before .before .before .before in
+    let f = factsOf (x .args .s .now) in
+    let e = both-parts (x .args .out .now) (f .mode .nfm) (f .mode .start) (omega (arith, x .pre .1 .1)) in
+    cc e
 
 pub show-spec : {M : Type 1} → statement M
 show-spec =

@@ -1,6 +1,8 @@
 -- `command::told` meets its contract. Assumes nothing.
 use native.Mathlib.Omega.{arith}
 use lib.ListN.{length-set}
+use Rattle.opening.proofs.Copying.{stored as stores}
+use Rattle.command.specs.Command.{shown}
 use borrow.Author.Needs.{needs}
 use Rattle.command.proofs.told.Statement.{statement}
 use Rattle.command.proofs.told.Tie as tie
@@ -48,7 +50,7 @@ same-length : tie.Need-same-length
 same-length c = simp length-set
 
 returns : tie.Need-returns
-returns c = search needs
+returns c = let a = c .args in stores (a .out .now) (shown (a .a) (a .s)) 0 (c .pre .0)
 
 pub told-spec : {M : Type 1} → statement M
 told-spec =
