@@ -1,3 +1,4 @@
 pub mod Choice
 pub mod NumberLaws
 pub mod Printed
+pub mod Putting

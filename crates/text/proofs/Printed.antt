@@ -39,7 +39,7 @@ module _ (k n : ℕ) where
   unfolding dec
   dec-one h = rw (lt-ltb n 10 h)
 
-  dec-many : 10 ≤ n → dec (suc k) n ≡ dec k (n / 10) ++ ((48 + n % 10) ∷ [])
+  pub dec-many : 10 ≤ n → dec (suc k) n ≡ dec k (n / 10) ++ ((48 + n % 10) ∷ [])
   unfolding dec
   dec-many h = rw (le-ltb n 10 h)
 
@@ -50,7 +50,7 @@ dec-more k v d h p =
     let b : (v * 10 + d) % 10 ≡ d = omega arith in
     dec-many k (v * 10 + d) (omega arith) ∙ rw (a, b)
 
-dec-stable : (k n : ℕ) → n < 10 ^ k → 1 ≤ n → dec (suc k) n ≡ dec k n
+pub dec-stable : (k n : ℕ) → n < 10 ^ k → 1 ≤ n → dec (suc k) n ≡ dec k n
 dec-stable zero n a b = absurd (omega arith)
 dec-stable (suc k) n a b =
     by-ten n (λ h. dec-one (suc k) n h ∙ sym (dec-one k n h))

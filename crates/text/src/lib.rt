@@ -1,7 +1,9 @@
-// Decimals out of bytes: only this crate knows what a digit is. Assumes nothing.
+// Decimals out of bytes, and bytes out of decimals: only this crate knows what a digit is. Assumes nothing.
 ghost use mathlib.Core.Path.{_≡_};
-ghost use Prim.Native.Nat.{_≤_};
+ghost use Prim.Native.Nat.{_+_, _≤_};
 ghost use lib.ListN.{length, drop};
+ghost use lib.Seq.{sets};
+ghost use Rattle.text.specs.Printed.{printNum};
 ghost use Rattle.text.specs.Number.{digitOf, num, partOf, placeOf, valueOf};
 
 // A number and the place after it, or nothing.
@@ -57,4 +59,18 @@ pub fn decimal(line: &[u8], at: usize, most: u64) -> Num
         i += 1;
     }
     Num::At(v, i)
+}
+
+// Writes a number from a place on, and answers the place after it.
+pub fn put(out: &mut [u8], at: usize, n: u32) -> usize
+    requires { ⌜ at + length (printNum n) ≤ length (now out) ⌝ }
+    ensures { λ r. ⌜ (now (out .exit) ≡ sets (now (out .entry)) at (printNum n)) × (r ≡ at + length (printNum n)) ⌝ }
+{
+    if n < 10 {
+        out[at] = 48 + n as u8;
+        return at + 1;
+    }
+    let next = put(out, at, n / 10);
+    out[next] = 48 + (n % 10) as u8;
+    next + 1
 }

@@ -1,0 +1,36 @@
+-- A printed number, written byte by byte. Assumes nothing.
+use Prim.Native.Nat.{ℕ, zero, suc, _+_, _/_, _%_, _≤_, _<_, _^_}
+use mathlib.Core.Path.{_≡_, refl, sym, ap, _∙_}
+use mathlib.Core.List.{List, [], _∷_, _++_}
+use native.Mathlib.Omega.{arith}
+use lib.ListN.{length, set, length-append}
+use lib.Seq.{sets}
+use Rattle.text.specs.Printed.{dec, printNum}
+use Rattle.text.proofs.Printed.{dec-one, dec-many, dec-stable}
+
+-- one byte more, after those stored
+sets-more : (l : List ℕ) (i : ℕ) (xs : List ℕ) (y : ℕ) → sets l i (xs ++ (y ∷ [])) ≡ set (sets l i xs) (i + length xs) y
+sets-more l i [] y = ap (λ (k : ℕ). set l k y) (let e : i ≡ i + 0 = omega arith in e)
+sets-more l i (x ∷ xs) y = sets-more (set l i x) (suc i) xs y ∙ ap (λ (k : ℕ). set (sets (set l i x) (suc i) xs) k y) (let e : suc i + length xs ≡ i + suc (length xs) = omega arith in e)
+
+module _ (n : ℕ) where
+  -- a digit
+  pub print-one : n < 10 → printNum n ≡ (48 + n) ∷ []
+  print-one h = dec-one 19 n h
+
+  -- a number of more digits is printed by its tenth and its last digit
+  pub print-many : 10 ≤ n → n < 10 ^ 20 → printNum n ≡ printNum (n / 10) ++ ((48 + n % 10) ∷ [])
+  print-many h k = dec-many 19 n h ∙ ap (λ (l : List ℕ). l ++ ((48 + n % 10) ∷ [])) (sym (dec-stable 19 (n / 10) (omega arith) (omega arith)))
+
+  pub length-one : n < 10 → length (printNum n) ≡ 1
+  length-one h = ap length (print-one h)
+
+  pub length-many : 10 ≤ n → n < 10 ^ 20 → length (printNum n) ≡ length (printNum (n / 10)) + 1
+  length-many h k = ap length (print-many h k) ∙ length-append (printNum (n / 10)) ((48 + n % 10) ∷ [])
+
+  module _ (l : List ℕ) (i : ℕ) where
+    pub put-one : n < 10 → set l i (48 + n) ≡ sets l i (printNum n)
+    put-one h = ap (sets l i) (sym (print-one h))
+
+    pub put-many : 10 ≤ n → n < 10 ^ 20 → set (sets l i (printNum (n / 10))) (i + length (printNum (n / 10))) (48 + n % 10) ≡ sets l i (printNum n)
+    put-many h k = sym (sets-more l i (printNum (n / 10)) (48 + n % 10)) ∙ ap (sets l i) (sym (print-many h k))
