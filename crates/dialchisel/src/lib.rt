@@ -1,0 +1,111 @@
+// The C interface: the nine calls of the gate, exported. Each slice is a pointer and a count, and each call gives back two numbers.
+// include/dialchisel.h says what the caller owes. Each call promises what the gate's own does.
+use rules::Answer;
+ghost use Rattle.rules.specs.Calls.{timed, ask, granted, silent, rejected, dropped, tick};
+ghost use Rattle.clock.specs.Call.{Says};
+ghost use Rattle.opening.specs.Open.{order, OpenSays};
+ghost use Rattle.saving.specs.Save.{SaveSays};
+ghost use Rattle.command.specs.Command.{CommandSays};
+
+// Opens the state: a new record begins. 1 for a state that is not 1,330 numbers, 2 for a setting or file out of range, 3 for the time.
+#[no_mangle]
+pub extern "C" fn dialchisel_open(
+    state: &mut [u32],
+    time: u32,
+    imsi: u64,
+    intervals: &[u32],
+    nfm: u32,
+    rpm: u32,
+    a1: u32,
+    s1: u32,
+    params: &[u8],
+    leaks: &[u8],
+    counters: &[u8],
+) -> Answer
+    ensures { λ r. ⌜ OpenSays (now (state .entry)) (order time imsi (now (intervals .entry)) nfm rpm a1 s1 (now (params .entry)) (now (leaks .entry)) (now (counters .entry))) r (now (state .exit)) ⌝ }
+{
+    gate::open(
+        state,
+        time,
+        imsi,
+        intervals,
+        nfm,
+        rpm,
+        a1,
+        s1,
+        params,
+        leaks,
+        counters,
+    )
+}
+
+// May request `kind` go to the network at `time`? 0 yes; 10 to 18 no.
+#[no_mangle]
+pub extern "C" fn dialchisel_request(state: &mut [u32], time: u32, kind: u32) -> Answer
+    ensures { λ r. ⌜ Says (now (state .entry)) (timed time (ask kind)) r (now (state .exit)) ⌝ }
+{
+    gate::request(state, time, kind)
+}
+
+// What was asked of a service was granted.
+#[no_mangle]
+pub extern "C" fn dialchisel_granted(state: &mut [u32], time: u32, service: u32) -> Answer
+    ensures { λ r. ⌜ Says (now (state .entry)) (timed time (granted service)) r (now (state .exit)) ⌝ }
+{
+    gate::granted(state, time, service)
+}
+
+// What was asked of a service was rejected with a cause; `second` says whether a second network exists. 20 to 23 say what to do.
+#[no_mangle]
+pub extern "C" fn dialchisel_rejected(
+    state: &mut [u32],
+    time: u32,
+    service: u32,
+    cause: u32,
+    second: u32,
+) -> Answer
+    ensures { λ r. ⌜ Says (now (state .entry)) (timed time (rejected service cause second)) r (now (state .exit)) ⌝ }
+{
+    gate::rejected(state, time, service, cause, second)
+}
+
+// What was asked of a service had no answer.
+#[no_mangle]
+pub extern "C" fn dialchisel_silent(state: &mut [u32], time: u32, service: u32) -> Answer
+    ensures { λ r. ⌜ Says (now (state .entry)) (timed time (silent service)) r (now (state .exit)) ⌝ }
+{
+    gate::silent(state, time, service)
+}
+
+// Service 2, which was up, was dropped.
+#[no_mangle]
+pub extern "C" fn dialchisel_dropped(state: &mut [u32], time: u32) -> Answer
+    ensures { λ r. ⌜ Says (now (state .entry)) (timed time dropped) r (now (state .exit)) ⌝ }
+{
+    gate::dropped(state, time)
+}
+
+// The clock call: time passes, and nothing else.
+#[no_mangle]
+pub extern "C" fn dialchisel_tick(state: &mut [u32], time: u32) -> Answer
+    ensures { λ r. ⌜ Says (now (state .entry)) (timed time tick) r (now (state .exit)) ⌝ }
+{
+    gate::tick(state, time)
+}
+
+// An AT line, its CR included: what it says is done, and its answer is written to the room, of at least 16 bytes. The second number is the bytes
+// written.
+#[no_mangle]
+pub extern "C" fn dialchisel_command(state: &mut [u32], line: &[u8], out: &mut [u8]) -> Answer
+    ensures { λ r. ⌜ CommandSays (now (state .entry)) (now (line .entry)) (now (out .entry)) r (now (state .exit)) (now (out .exit)) ⌝ }
+{
+    gate::command(state, line, out)
+}
+
+// Writes the counter file to exactly 32 bytes of room.
+#[no_mangle]
+pub extern "C" fn dialchisel_counters(state: &mut [u32], out: &mut [u8]) -> Answer
+    ensures { λ r. ⌜ SaveSays (now (state .entry)) (now (out .entry)) r (now (state .exit)) (now (out .exit)) ⌝ }
+{
+    gate::counters(state, out)
+}
