@@ -1,17 +1,17 @@
 -- A printed number, written byte by byte. Assumes nothing.
-use Prim.Native.Nat.{ℕ, zero, suc, _+_, _/_, _%_, _≤_, _<_, _^_}
-use mathlib.Core.Path.{_≡_, refl, sym, ap, _∙_}
+use Prim.Native.Nat.{ℕ, suc, _+_, _/_, _%_, _≤_, _<_, _^_}
+use mathlib.Core.Path.{_≡_, sym, ap, _∙_}
 use mathlib.Core.List.{List, [], _∷_, _++_}
 use native.Mathlib.Omega.{arith}
 use lib.ListN.{length, set, length-append}
 use lib.Seq.{sets}
-use Rattle.text.specs.Printed.{dec, printNum}
+use Rattle.text.specs.Printed.{printNum}
 use Rattle.text.proofs.Printed.{dec-one, dec-many, dec-stable}
 
--- one byte more, after those stored
-sets-more : (l : List ℕ) (i : ℕ) (xs : List ℕ) (y : ℕ) → sets l i (xs ++ (y ∷ [])) ≡ set (sets l i xs) (i + length xs) y
-sets-more l i [] y = ap (λ (k : ℕ). set l k y) (let e : i ≡ i + 0 = omega arith in e)
-sets-more l i (x ∷ xs) y = sets-more (set l i x) (suc i) xs y ∙ ap (λ (k : ℕ). set (sets (set l i x) (suc i) xs) k y) (let e : suc i + length xs ≡ i + suc (length xs) = omega arith in e)
+-- more bytes, after those stored
+pub sets-append : (l : List ℕ) (i : ℕ) (xs ys : List ℕ) → sets l i (xs ++ ys) ≡ sets (sets l i xs) (i + length xs) ys
+sets-append l i [] ys = ap (λ (k : ℕ). sets l k ys) (let e : i ≡ i + 0 = omega arith in e)
+sets-append l i (x ∷ xs) ys = sets-append (set l i x) (suc i) xs ys ∙ ap (λ (k : ℕ). sets (sets (set l i x) (suc i) xs) k ys) (let e : suc i + length xs ≡ i + suc (length xs) = omega arith in e)
 
 module _ (n : ℕ) where
   -- a digit
@@ -33,4 +33,4 @@ module _ (n : ℕ) where
     put-one h = ap (sets l i) (sym (print-one h))
 
     pub put-many : 10 ≤ n → n < 10 ^ 20 → set (sets l i (printNum (n / 10))) (i + length (printNum (n / 10))) (48 + n % 10) ≡ sets l i (printNum n)
-    put-many h k = sym (sets-more l i (printNum (n / 10)) (48 + n % 10)) ∙ ap (sets l i) (sym (print-many h k))
+    put-many h k = sym (sets-append l i (printNum (n / 10)) ((48 + n % 10) ∷ [])) ∙ ap (sets l i) (sym (print-many h k))

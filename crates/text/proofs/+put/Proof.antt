@@ -1,9 +1,6 @@
 -- `text::put` meets its contract: it writes the digits before the last by itself. The measure is the number. Assumes nothing.
 use native.Mathlib.Omega.{arith}
 use borrow.Author.Needs.{needs}
-use lib.ListN.{length, length-set}
-use lib.Seq.{length-sets}
-use Rattle.text.specs.Printed.{printNum}
 use Rattle.text.proofs.Putting.{length-one, length-many, put-one, put-many}
 use Prim.Native.Nat.{ℕ, _<_}
 use borrow.Fn.Kinds.{In}

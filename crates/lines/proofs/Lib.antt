@@ -1,0 +1,8 @@
+pub mod Reading
+pub mod Letters
+pub mod Rows
+pub mod Printing
+pub mod Doing
+pub mod Staying
+pub mod OneResult
+pub mod ReadsBack

@@ -1,0 +1,182 @@
+-- Document 01's trace: what a line says. A line stands without its LF. Fields are parted by one space, listed numbers by commas. Assumes nothing.
+use mathlib.Core.Bool.{Bool, true, false, cond}
+use mathlib.Core.List.{List, [], _∷_, _++_}
+use Prim.Native.Nat.{ℕ, zero, suc}
+use lib.Dec.{eqb, leb}
+use lib.ListN.{length, getD, drop, replicate}
+use Rattle.rules.specs.Calls.{Call, timed, typed, Event, ask, granted, silent, rejected, dropped, tick}
+use Rattle.buffer.specs.Segments.{pad}
+use Rattle.opening.specs.Open.{Order, order}
+use Rattle.text.specs.Number.{Part, got, none, num}
+use Rattle.at.specs.Lines.{readLine}
+
+-- ---- Bytes and ranges
+
+abbrev pub letterO : ℕ
+letterO = 79
+
+abbrev pub letterQ : ℕ
+letterQ = 81
+
+abbrev pub letterG : ℕ
+letterG = 71
+
+abbrev pub letterS : ℕ
+letterS = 83
+
+abbrev pub letterJ : ℕ
+letterJ = 74
+
+abbrev pub letterD : ℕ
+letterD = 68
+
+abbrev pub letterT : ℕ
+letterT = 84
+
+abbrev pub letterA : ℕ
+letterA = 65
+
+abbrev pub space : ℕ
+space = 32
+
+abbrev pub comma : ℕ
+comma = 44
+
+-- the CR that closes an AT line
+abbrev pub cr : ℕ
+cr = 13
+
+-- the highest decimal, but for an IMSI and a file's byte
+abbrev pub highest : ℕ
+highest = 4294967295
+
+abbrev pub highestImsi : ℕ
+highestImsi = 18446744073709551615
+
+abbrev pub highestByte : ℕ
+highestByte = 255
+
+-- the longest line
+abbrev pub longest : ℕ
+longest = 256
+
+-- ---- Fields
+
+-- the byte x stands first
+unfoldable pub begins : ℕ → List ℕ → Bool
+begins x [] = false
+begins x (y ∷ l) = eqb y x
+
+-- nothing is left
+unfoldable pub ended : List ℕ → Bool
+ended [] = true
+ended (x ∷ l) = false
+
+-- a space and a number
+unfoldable pub field : (most : ℕ) → List ℕ → Part
+field most l = cond (begins space l) (num most (drop 1 l)) none
+
+-- numbers and the bytes after them, or none
+pub data Row : Type 0 where
+  row : List ℕ → List ℕ → Row
+  no-row : Row
+
+-- what follows a number of a row
+abbrev pub moreOf : ℕ → Part → List ℕ → (List ℕ → List ℕ → Row) → Row
+moreOf sep none done go = no-row
+moreOf sep (got v r) done go = cond (begins sep r) (go (drop 1 r) (done ++ (v ∷ []))) (row (done ++ (v ∷ [])) r)
+
+-- numbers with the byte sep between them, after those done: all that stand there, at least one and at most k
+unfoldable pub numbers : (sep most k : ℕ) → List ℕ → List ℕ → Row
+numbers sep most zero l done = no-row
+numbers sep most (suc k) l done = moreOf sep (num most l) done (numbers sep most k)
+
+-- a space and a row of numbers
+unfoldable pub fields : (sep most k : ℕ) → List ℕ → Row
+fields sep most k l = cond (begins space l) (numbers sep most k (drop 1 l) []) no-row
+
+-- what follows a number, numbers, or k numbers exactly; z where they are not there
+abbrev pub ifNumber : {A : Type 0} → A → Part → (ℕ → List ℕ → A) → A
+ifNumber z none go = z
+ifNumber z (got v l) go = go v l
+
+abbrev pub ifNumbers : {A : Type 0} → A → Row → (List ℕ → List ℕ → A) → A
+ifNumbers z no-row go = z
+ifNumbers z (row n l) go = go n l
+
+abbrev pub ifExactly : {A : Type 0} → A → ℕ → Row → (List ℕ → List ℕ → A) → A
+ifExactly z k r go = ifNumbers z r (λ n l. cond (eqb (length n) k) (go n l) z)
+
+-- ---- Lines
+
+-- an opening, another call, or an ill-formed line
+pub data Said : Type 0 where
+  opens : Order → Said
+  calls : Call → Said
+  wrong : Said
+
+-- how many numbers follow a letter, the time first; 0 for a letter that begins no timed line
+unfoldable pub howMany : ℕ → ℕ
+howMany x =
+    cond (eqb x letterQ) 2
+    (cond (eqb x letterG) 2
+    (cond (eqb x letterS) 2
+    (cond (eqb x letterJ) 4
+    (cond (eqb x letterD) 1
+    (cond (eqb x letterT) 1 0)))))
+
+-- what happens, by the letter and the numbers after it
+unfoldable pub eventOf : ℕ → List ℕ → Event
+eventOf x n =
+    cond (eqb x letterQ) (ask (getD n 1 0))
+    (cond (eqb x letterG) (granted (getD n 1 0))
+    (cond (eqb x letterS) (silent (getD n 1 0))
+    (cond (eqb x letterJ) (rejected (getD n 1 0) (getD n 2 0) (getD n 3 0))
+    (cond (eqb x letterD) dropped tick))))
+
+-- Q, G, S, J, D, T: the time and up to three numbers more
+unfoldable pub timedLine : ℕ → List ℕ → Said
+timedLine x l = ifExactly wrong (howMany x) (fields space highest 4 l) (λ n rest. cond (ended rest) (calls (timed (getD n 0 0) (eventOf x n))) wrong)
+
+-- A: the rest of the line, which CR closes
+unfoldable pub typedLine : List ℕ → Said
+typedLine l = cond (begins space l) (calls (typed (readLine (drop 1 l ++ (cr ∷ []))))) wrong
+
+-- what ends an opening: the parameter file, the leak rate file, A1 and S1
+pub data Ending : Type 0 where
+  ending : (parameters rates : List ℕ) (A1 S1 : ℕ) → Ending
+  no-ending : Ending
+
+-- six parameters, three leak rates and two limits, then the end; each file is filled up with 0
+unfoldable pub endingOf : List ℕ → Ending
+endingOf l =
+    ifExactly no-ending 6 (fields comma highestByte 6 l) (λ p l1.
+    ifExactly no-ending 3 (fields comma highestByte 3 l1) (λ q l2.
+    ifExactly no-ending 2 (fields space highest 2 l2) (λ n l3.
+    cond (ended l3) (ending (pad 32 p) (pad 6 q) (getD n 0 0) (getD n 1 0)) no-ending)))
+
+-- the order to open: NFM and RPM 1, counters 0
+abbrev pub opensBy : (time imsi : ℕ) (intervals : List ℕ) → Ending → Said
+opensBy t i xs no-ending = wrong
+opensBy t i xs (ending p q a s) = opens (order t i xs 1 1 a s p q (replicate 32 0))
+
+-- O: time, IMSI, intervals, parameters, leak rates, A1, S1. A line of 256 bytes has room for fewer than 128 intervals; more than ten are for the opening
+-- to refuse
+unfoldable pub openLine : List ℕ → Said
+openLine l =
+    ifNumber wrong (field highest l) (λ t l1.
+    ifNumber wrong (field highestImsi l1) (λ i l2.
+    ifNumbers wrong (fields comma highest 128 l2) (λ xs l3.
+    opensBy t i xs (endingOf l3))))
+
+unfoldable pub byLetter : ℕ → List ℕ → Said
+byLetter x l = cond (eqb x letterO) (openLine l) (cond (eqb x letterA) (typedLine l) (timedLine x l))
+
+-- a line by its first byte
+unfoldable pub readTrace : List ℕ → Said
+readTrace [] = wrong
+readTrace (x ∷ l) = byLetter x l
+
+-- what a line says; one that is longer is ill-formed
+unfoldable pub saidBy : List ℕ → Said
+saidBy l = cond (leb (length l) longest) (readTrace l) wrong
