@@ -324,6 +324,7 @@ fn obey(s: &mut [u32], line: &[u8], ok: bool) -> Reply
 fn two(out: &mut [u8], a: Answer) -> usize
     requires { ⌜ 22 ≤ length (now out) ⌝ }
     ensures { λ r. ⌜ (now (out .exit) ≡ paste (now (out .entry)) 0 (printedTwo a)) × (r ≡ length (printedTwo a)) ⌝ }
+    ensures { λ r. ⌜ r ≤ 22 ⌝ }
 {
     let n = text::put(out, 0, a.number);
     out[n] = b' ';
@@ -333,7 +334,7 @@ fn two(out: &mut [u8], a: Answer) -> usize
 }
 
 // ERR and LF.
-fn wrong(out: &mut [u8]) -> usize
+pub fn wrong(out: &mut [u8]) -> usize
     requires { ⌜ 22 ≤ length (now out) ⌝ }
     ensures { λ r. ⌜ (now (out .exit) ≡ paste (now (out .entry)) 0 printedWrong) × (r ≡ 4) ⌝ }
 {
@@ -349,6 +350,7 @@ fn respond(s: &mut [u32], line: &[u8], out: &mut [u8], ok: bool) -> usize
     requires { ⌜ ok ≡ good (now s) ⌝ }
     requires { ⌜ 22 ≤ length (now out) ⌝ }
     ensures { λ r. ⌜ LineSays (now (s .entry)) (now (line .entry)) (now (out .entry)) r (now (s .exit)) (now (out .exit)) ⌝ }
+    ensures { λ r. ⌜ r ≤ 22 ⌝ }
 {
     match obey(s, line, ok) {
         Reply::Numbers(a) => two(out, a),
@@ -361,6 +363,7 @@ pub fn answer_in(s: &mut [u32], line: &[u8], out: &mut [u8]) -> usize
     requires { ⌜ good (now s) ≡ true ⌝ }
     requires { ⌜ 22 ≤ length (now out) ⌝ }
     ensures { λ r. ⌜ LineSays (now (s .entry)) (now (line .entry)) (now (out .entry)) r (now (s .exit)) (now (out .exit)) ⌝ }
+    ensures { λ r. ⌜ r ≤ 22 ⌝ }
 {
     respond(s, line, out, true)
 }
@@ -368,6 +371,7 @@ pub fn answer_in(s: &mut [u32], line: &[u8], out: &mut [u8]) -> usize
 // Answers a line: the bytes are written to the front of the room, which takes at least 22, and counted.
 pub fn answer(s: &mut [u32], line: &[u8], out: &mut [u8]) -> usize
     ensures { λ r. ⌜ LineSays (now (s .entry)) (now (line .entry)) (now (out .entry)) r (now (s .exit)) (now (out .exit)) ⌝ }
+    ensures { λ r. ⌜ r ≤ 22 ⌝ }
 {
     if out.len() < 22 {
         return 0;

@@ -1,12 +1,12 @@
 -- `lines::answer` meets its contract. Assumes nothing.
 use Rattle.lines.proofs.Doing.{line-room}
-use Prim.Native.Nat.{_-_}
+use native.Mathlib.Omega.{arith}
 use borrow.Author.Needs.{needs}
 use Rattle.lines.proofs.answer.Statement.{statement}
 use Rattle.lines.proofs.answer.Tie as tie
 
 returns : tie.Need-returns
-returns c = line-room (c .if1 .taken)
+returns c = (line-room (c .if1 .taken), omega arith)
 
 is-good-requires : tie.Need-is-good-requires
 is-good-requires c κs = search needs

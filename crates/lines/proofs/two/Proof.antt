@@ -31,7 +31,7 @@ same-length : tie.Need-same-length
 same-length c = let a = c .before .before .before .before .before .before .before .before .before .args in let e = c .before .before .before .before .before .before .put .ensures in let w = ap length (e .0) ∙ length-sets (a .out .now) 0 (printNum (a .a .number)) in let z : length (c .before .before .put2 .last .0) ≡ length (c .before .before .before .before .before .before .put .last .0) = c .before .before .put2 .kept .0 ∙ length-set (c .before .before .before .before .before .before .put .last .0) (c .before .before .before .before .before .before .put .result) 32 in simp length-set (omega (arith, w, z))
 
 returns : tie.Need-returns
-returns c = let x = c .before .before .before .before .before .before .before .before .before .args in let h = ten-digits (x .a .number) (omega arith) in let k = ten-digits (x .a .second) (omega arith) in let e = c .before .before .before .before .before .before .put .ensures in let f = c .before .before .put2 .ensures in let l = length-two (x .a) in (cc (e .0, f .0, two-stored (x .a) (x .out .now) _ _ (e .1) (f .1) (omega arith)), omega arith)
+returns c = let x = c .before .before .before .before .before .before .before .before .before .args in let h = ten-digits (x .a .number) (omega arith) in let k = ten-digits (x .a .second) (omega arith) in let e = c .before .before .before .before .before .before .put .ensures in let f = c .before .before .put2 .ensures in let l = length-two (x .a) in ((cc (e .0, f .0, two-stored (x .a) (x .out .now) _ _ (e .1) (f .1) (omega arith)), omega arith), omega arith)
 
 pub two-spec : {M : Type 1} → statement M
 two-spec =
