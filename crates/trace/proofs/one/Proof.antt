@@ -1,0 +1,113 @@
+-- `trace::one` meets its contract. Assumes nothing.
+use Rattle.lines.proofs.Staying.{stays-good}
+use Prim.Native.Nat.{_-_}
+use mathlib.Core.Path.{sym, _∙_}
+use native.Mathlib.Omega.{arith}
+use borrow.Author.Needs.{needs}
+use Rattle.trace.proofs.one.Statement.{statement}
+use Rattle.trace.proofs.one.Tie as tie
+
+room-requires : tie.Need-room-requires
+room-requires c κs = search needs
+
+sub-wrong : tie.Need-sub-wrong
+sub-wrong c = search needs
+
+part-wrong-start : tie.Need-part-wrong-start
+part-wrong-start c = search needs
+
+part-wrong-end : tie.Need-part-wrong-end
+part-wrong-end c = search needs
+
+wrong-requires : tie.Need-wrong-requires
+wrong-requires c κs = search needs
+
+add-t16 : tie.Need-add-t16
+add-t16 c = search needs
+
+same-length : tie.Need-same-length
+same-length c = search needs
+
+returns : tie.Need-returns
+returns c = search needs
+
+sub-answer-in : tie.Need-sub-answer-in
+sub-answer-in c = search needs
+
+part-answer-in-start : tie.Need-part-answer-in-start
+part-answer-in-start c = search needs
+
+part-answer-in-end : tie.Need-part-answer-in-end
+part-answer-in-end c = search needs
+
+answer-in-requires : tie.Need-answer-in-requires
+answer-in-requires c κs = (c .before .before .before .before .before .before .before .before .before .pre .0 (c .before .before .if2 .taken), search needs)
+
+add-t22 : tie.Need-add-t22
+add-t22 c = search needs
+
+same-length-2 : tie.Need-same-length-2
+same-length-2 c = search needs
+
+same-length-3 : tie.Need-same-length-3
+same-length-3 c = search needs
+
+returns-2 : tie.Need-returns-2
+returns-2 c = let a = c .before .before .before .before .before .before .before .before .before .before .before .before .before .before .args in (omega (arith, c .before .before .before .before .answer-in .ensures .1), λ _. stays-good (a .state .now) (a .line .now) _ _ _ _ (c .before .before .before .before .answer-in .ensures .0) (c .before .before .before .before .before .before .before .before .before .before .before .before .before .before .pre .0 (c .before .before .before .before .before .before .before .if2 .taken)))
+
+sub-answer : tie.Need-sub-answer
+sub-answer c = search needs
+
+part-answer-start : tie.Need-part-answer-start
+part-answer-start c = search needs
+
+part-answer-end : tie.Need-part-answer-end
+part-answer-end c = search needs
+
+answer-requires : tie.Need-answer-requires
+answer-requires c κs = search needs
+
+is-good-requires : tie.Need-is-good-requires
+is-good-requires c κs = search needs
+
+add-t28 : tie.Need-add-t28
+add-t28 c = search needs
+
+same-length-4 : tie.Need-same-length-4
+same-length-4 c = search needs
+
+same-length-5 : tie.Need-same-length-5
+same-length-5 c = search needs
+
+returns-3 : tie.Need-returns-3
+returns-3 c = (omega (arith, c .before .before .before .before .before .before .answer .ensures .1), λ e. sym (c .is-good .ensures) ∙ e)
+
+pub one-spec : {M : Type 1} → statement M
+one-spec =
+    tie.close
+    (tie.spec
+    room-requires
+    sub-wrong
+    part-wrong-start
+    part-wrong-end
+    wrong-requires
+    add-t16
+    same-length
+    returns
+    sub-answer-in
+    part-answer-in-start
+    part-answer-in-end
+    answer-in-requires
+    add-t22
+    same-length-2
+    same-length-3
+    returns-2
+    sub-answer
+    part-answer-start
+    part-answer-end
+    answer-requires
+    is-good-requires
+    add-t28
+    same-length-4
+    same-length-5
+    returns-3)

@@ -1,0 +1,56 @@
+-- `trace::shift` meets its contract. Assumes nothing.
+use Prim.Native.Nat.{_≤_, _-_}
+use mathlib.Core.Path.{_≡_}
+use lib.ListN.{length}
+use borrow.Author.Needs.{needs}
+use Rattle.trace.proofs.shift.Statement.{statement}
+use Rattle.trace.proofs.shift.Tie as tie
+
+abbrev Inv-loop : tie.InvT-loop
+Inv-loop buf₀ start end i₀ buf i = (start ≤ i) × ((i ≤ end) × (length buf ≡ length buf₀))
+
+abbrev μ-loop : tie.MeasureT-loop
+μ-loop buf₀ start end i₀ buf i = end - i
+
+loop-holds : tie.Need-loop-holds Inv-loop μ-loop
+loop-holds c = search needs
+
+slice-read-buf : tie.Need-slice-read-buf Inv-loop μ-loop
+slice-read-buf c = search needs
+
+sub-buf : tie.Need-sub-buf Inv-loop μ-loop
+sub-buf c = search needs
+
+slice-write-buf : tie.Need-slice-write-buf Inv-loop μ-loop
+slice-write-buf c = search needs
+
+add-i : tie.Need-add-i Inv-loop μ-loop
+add-i c = search needs
+
+loop-less : tie.Need-loop-less Inv-loop μ-loop
+loop-less c = search needs
+
+loop-again : tie.Need-loop-again Inv-loop μ-loop
+loop-again c = search needs
+
+same-length : tie.Need-same-length Inv-loop μ-loop
+same-length c = search needs
+
+returns : tie.Need-returns Inv-loop μ-loop
+returns c = search needs
+
+pub shift-spec : {M : Type 1} → statement M
+shift-spec =
+    tie.close
+    (tie.spec
+    Inv-loop
+    μ-loop
+    loop-holds
+    slice-read-buf
+    sub-buf
+    slice-write-buf
+    add-i
+    loop-less
+    loop-again
+    same-length
+    returns)
