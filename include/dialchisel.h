@@ -1,0 +1,203 @@
+/* dialchisel.h: a proved gate in front of a cellular module. Before each request it answers whether the request may go to the network.
+ *
+ * For one module and one subscription it keeps the Network Friendly Mode (NFM) back-offs, the Radio Policy Manager (RPM) hourly limits
+ * and the card's counters of GSMA CLP.03 v2.0, all in a state that you lend:
+ *
+ *     static uint32_t state[DIALCHISEL_STATE];
+ *     static const uint32_t intervals[] = {60, 120, 240};
+ *     struct dialchisel_answer a;
+ *
+ *     a = dialchisel_open(state, DIALCHISEL_STATE, now(), imsi, intervals, 3, 1, 1, 0, 20,
+ *                         params, DIALCHISEL_PARAMETER_FILE, leaks, DIALCHISEL_LEAK_FILE, counters, DIALCHISEL_COUNTER_FILE);
+ *     ...
+ *     a = dialchisel_request(state, DIALCHISEL_STATE, now(), DIALCHISEL_PDP_ACTIVATION);
+ *     if (a.number == DIALCHISEL_DONE) {
+ *         switch (ask_the_network(&cause)) {
+ *         case GRANTED:  a = dialchisel_granted(state, DIALCHISEL_STATE, now(), DIALCHISEL_PDP); break;
+ *         case REJECTED: a = dialchisel_rejected(state, DIALCHISEL_STATE, now(), DIALCHISEL_PDP, cause, 0); break;
+ *         default:       a = dialchisel_silent(state, DIALCHISEL_STATE, now(), DIALCHISEL_PDP); break;
+ *         }
+ *     } else if (a.number == DIALCHISEL_BLOCKED_BACKOFF) {
+ *         ask_again_in(a.second);
+ *     }
+ *
+ * What you owe, in every call:
+ * - Each pointer is aligned for its type and valid for the number of elements that follows it. Where that number is 0, any pointer will do.
+ * - No two buffers of a call overlap, unless both are const.
+ * - No other thread or interrupt touches a buffer of the call until it returns; const ones may be read.
+ * Nothing is owed about contents: for any numbers, bytes and lengths, every call is safe and answers exactly as written here.
+ *
+ * What you get:
+ * - A refused call (numbers 1 to 5) changes nothing in any buffer. const buffers are never written.
+ * - The library keeps no state of its own, allocates nothing, waits for nothing, and calls nothing but memmove and memset. Different
+ *   states may be used at the same time.
+ * - The state holds no pointers: it may be copied, saved and brought back. Each call but opening first checks all of it against the
+ *   table at the end of this file, and refuses with 1 what does not fit.
+ */
+#ifndef DIALCHISEL_H
+#define DIALCHISEL_H
+
+#include <stddef.h>
+#include <stdint.h>
+
+#ifdef __cplusplus
+extern "C" {
+#endif
+
+/* Sizes: the state in numbers, the rest in bytes. */
+#define DIALCHISEL_STATE 1330         /* exactly */
+#define DIALCHISEL_PARAMETER_FILE 32  /* exactly: N1, T1, F1, F2, F3, F4, then zeros */
+#define DIALCHISEL_LEAK_FILE 6        /* exactly: LR-1, LR-2, LR-3, then zeros */
+#define DIALCHISEL_COUNTER_FILE 32    /* exactly: C-BR-1, C-R-1, C-PDP-1 to C-PDP-4, then zeros */
+#define DIALCHISEL_AT_ROOM 16         /* at least; the longest answer is 15 */
+#define DIALCHISEL_INTERVALS 10       /* at most, and at least one; each 1 to 65,535 s, none below the one before */
+#define DIALCHISEL_LATEST 4000000000u /* the latest time, in seconds */
+
+/* What a request asks for. Kinds 0 to 3 ask a service of the same number. */
+enum dialchisel_kind {
+    DIALCHISEL_GSM_REGISTRATION = 0,
+    DIALCHISEL_GPRS_REGISTRATION = 1,
+    DIALCHISEL_PDP_ACTIVATION = 2,
+    DIALCHISEL_SMS_SENDING = 3,
+    DIALCHISEL_PDP_DEACTIVATION = 4,
+    DIALCHISEL_MODULE_RESET = 5
+};
+
+/* Whom an outcome comes from. */
+enum dialchisel_service { DIALCHISEL_GSM = 0, DIALCHISEL_GPRS = 1, DIALCHISEL_PDP = 2, DIALCHISEL_SMS = 3 };
+
+/* The first number given back. The second is 0 but for 0 (bytes written by command and counters), 10 (seconds left) and 20 (the wait in
+ * seconds). Checks run in the order 1, 2, 3, 4, or 1, 5 for an AT line; then 10, then the limits in the order of their numbers: the first
+ * that blocks is the one told, and it alone counts. Treat a number that is not here as "no": later versions may add some from 24 up. */
+enum dialchisel_number {
+    DIALCHISEL_DONE = 0,              /* done or permitted */
+    /* Refused: nothing changed. */
+    DIALCHISEL_REFUSED_BUFFER = 1,    /* state not 1,330 numbers or damaged (opening asks the length only), AT room under 16, counter room not 32 */
+    DIALCHISEL_REFUSED_RANGE = 2,     /* service, kind, cause, flag or setting out of range; at opening, a bad card file */
+    DIALCHISEL_REFUSED_TIME = 3,      /* time below the last one or above 4,000,000,000; opening needs no earlier time */
+    DIALCHISEL_REFUSED_STANDING = 4,  /* the service does not stand where the call needs it */
+    DIALCHISEL_REFUSED_LINE = 5,      /* not an AT line of the four forms below */
+    /* Blocked: do not send. The clock moved, counters leaked, and the limit's own counter rose by one, to 255 at most. */
+    DIALCHISEL_BLOCKED_BACKOFF = 10,  /* a back-off runs; second: seconds left. No counter */
+    DIALCHISEL_BLOCKED_N1 = 11,       /* resets in the hour. C-BR-1 */
+    DIALCHISEL_BLOCKED_F1 = 13,       /* activations in the hour, after one was ignored. C-PDP-1 */
+    DIALCHISEL_BLOCKED_F2 = 14,       /* the same, after a permanent rejection. C-PDP-2 */
+    DIALCHISEL_BLOCKED_F3 = 15,       /* the same, after a temporary rejection. C-PDP-3 */
+    DIALCHISEL_BLOCKED_F4 = 16,       /* activations and deactivations in the hour. C-PDP-4 */
+    DIALCHISEL_BLOCKED_A1 = 17,       /* attaches in the hour: a limit of this house. No counter */
+    DIALCHISEL_BLOCKED_S1 = 18,       /* SMS in the hour: a limit of this house. No counter */
+    /* Advice, from rejected and silent. The outcome is taken. */
+    DIALCHISEL_BACKED_OFF = 20,       /* a back-off began; second: the wait in seconds, at least the interval and less than twice it */
+    DIALCHISEL_REATTACH = 21,
+    DIALCHISEL_OTHER_NETWORK = 22,
+    DIALCHISEL_AS_3GPP = 23           /* go on as 3GPP says; also in place of 20 while NFM is 0 */
+};
+
+struct dialchisel_answer {
+    uint32_t number; /* enum dialchisel_number */
+    uint32_t second; /* 0 where nothing else is said */
+};
+
+/* Opens the state for a module and its subscription; what was in it does not matter. A new state is idle, with no failures, back-offs
+ * or permits, and its counters come from the card.
+ *   time      now, in whole seconds of a clock that never goes back
+ *   imsi      as a number, at most 999,999,999,999,999; it spreads the waits
+ *   intervals 1 to 10 base intervals of the back-offs, in seconds
+ *   nfm, rpm  0 or 1: are back-offs timed; do N1 and F1 to F4 apply
+ *   a1, s1    attaches and SMS permitted in an hour, at most 255; 0 is no limit
+ *   params, leaks, counters  the three card files as they were read; a limit of 0 is no limit, a leak rate of 0 no leak
+ * Answers 0, or refuses with 1, 2 or 3. */
+struct dialchisel_answer dialchisel_open(uint32_t *state, size_t state_count, uint32_t time, uint64_t imsi,
+                                         const uint32_t *intervals, size_t intervals_count,
+                                         uint32_t nfm, uint32_t rpm, uint32_t a1, uint32_t s1,
+                                         const uint8_t *params, size_t params_count,
+                                         const uint8_t *leaks, size_t leaks_count,
+                                         const uint8_t *counters, size_t counters_count);
+
+/* May a request of this kind go to the network now? Kinds 0 to 3 need their service idle and make it asked; 4 needs PDP up and makes it
+ * idle; 5 fits always and makes all idle, but ends no back-off. Answers 0 (send it: it counts as sent), 10 to 18 (do not), or refuses
+ * with 1 to 4. */
+struct dialchisel_answer dialchisel_request(uint32_t *state, size_t state_count, uint32_t time, uint32_t kind);
+
+/* The network granted what was asked of a service. Needs the service asked; makes it idle (PDP: up), its failures and back-off 0.
+ * Answers 0, or refuses with 1 to 4. */
+struct dialchisel_answer dialchisel_granted(uint32_t *state, size_t state_count, uint32_t time, uint32_t service);
+
+/* The network rejected what was asked of a service, with a cause of 0 to 255 (GSM: MM, GPRS: GMM, PDP: SM, SMS: RP or CP). `second` is 1
+ * if a second network exists, else 0. Needs the service asked; makes it idle. PDP backs off on causes 8, 26, 27, 29 to 33 and 35;
+ * re-attaches on 28; on 34 takes the other network if there is one, else backs off; on the rest it is as 3GPP says. The other services
+ * back off on every cause. Each failure in a row takes the next interval, or the last. Answers 20 to 23, or refuses with 1 to 4. */
+struct dialchisel_answer dialchisel_rejected(uint32_t *state, size_t state_count, uint32_t time, uint32_t service,
+                                             uint32_t cause, uint32_t second);
+
+/* The network did not answer what was asked of a service. Needs the service asked; makes it idle, and backs off. Answers 20 or 23, or
+ * refuses with 1 to 4. */
+struct dialchisel_answer dialchisel_silent(uint32_t *state, size_t state_count, uint32_t time, uint32_t service);
+
+/* PDP, which was up, was dropped. Makes it idle. Answers 0, or refuses with 1, 3 or 4. */
+struct dialchisel_answer dialchisel_dropped(uint32_t *state, size_t state_count, uint32_t time);
+
+/* Time has passed: the clock moves and counters leak, as they do in every other call that is given a time. Answers 0, or refuses with
+ * 1 or 3. */
+struct dialchisel_answer dialchisel_tick(uint32_t *state, size_t state_count, uint32_t time);
+
+/* Obeys an AT line, which ends in its CR, and writes what goes back to the terminal. The clock does not move. The forms:
+ *   AT+NFM=a      NFM becomes a (0 or 1); 0 also sets failures and back-offs to 0
+ *   AT+NFM=a,s    the same, and Start Timer becomes s (0 or 1)
+ *   AT+NFM=?      reads both: "+NFM: a,s" CR LF comes before the "OK" CR LF that every form writes
+ *   AT+NFMCI=...  1 to 10 new intervals, with commas; running back-offs stay
+ * Answers 0 and the bytes written, 4 or 15 (those beyond are left), or refuses with 1 or 5: what to print then is yours to say. */
+struct dialchisel_answer dialchisel_command(uint32_t *state, size_t state_count, const uint8_t *line, size_t line_count,
+                                            uint8_t *room, size_t room_count);
+
+/* Writes the counter file for the card. The state and its clock stay as they are; for counters of now, call dialchisel_tick before.
+ * Answers 0 and 32, or refuses with 1. */
+struct dialchisel_answer dialchisel_counters(uint32_t *state, size_t state_count, uint8_t *room, size_t room_count);
+
+/* Where things stand in the state, for reading. Do not write there: a place changed by hand is either refused with 1 from then on or,
+ * worse, believed. */
+enum dialchisel_place {
+    DIALCHISEL_PLACE_LETTERS = 0,        /* 0x00575250 */
+    DIALCHISEL_PLACE_VERSION = 1,        /* 1 */
+    DIALCHISEL_PLACE_OPENED = 2,         /* opening time */
+    DIALCHISEL_PLACE_LAST = 3,           /* last time */
+    DIALCHISEL_PLACE_IMSI = 4,           /* 2 places: quotient and remainder by 2^32 */
+    DIALCHISEL_PLACE_NFM = 6,            /* 0 or 1 */
+    DIALCHISEL_PLACE_START_TIMER = 7,    /* 0 or 1: kept and shown, without effect */
+    DIALCHISEL_PLACE_RPM = 8,            /* 0 or 1 */
+    DIALCHISEL_PLACE_INTERVAL_COUNT = 9, /* 1 to 10 */
+    DIALCHISEL_PLACE_INTERVALS = 10,     /* 10 places; unused ones 0 */
+    DIALCHISEL_PLACE_N1 = 20,
+    DIALCHISEL_PLACE_T1 = 21,            /* kept, without effect */
+    DIALCHISEL_PLACE_F1 = 22,
+    DIALCHISEL_PLACE_F2 = 23,
+    DIALCHISEL_PLACE_F3 = 24,
+    DIALCHISEL_PLACE_F4 = 25,
+    DIALCHISEL_PLACE_A1 = 26,
+    DIALCHISEL_PLACE_S1 = 27,
+    DIALCHISEL_PLACE_LEAK_RATES = 28,    /* 3 places: LR-1, LR-2, LR-3, in hours */
+    DIALCHISEL_PLACE_FAILURES = 31,      /* 4 places, one for each service: failures in a row, to 255 */
+    DIALCHISEL_PLACE_ENDS = 35,          /* 4 places, one for each service: when its back-off ends; 0 is none */
+    DIALCHISEL_PLACE_STANDINGS = 39,     /* 4 places, one for each service: 0 idle, 1 asked, 2 up (PDP alone) */
+    DIALCHISEL_PLACE_MOOD = 43,          /* how PDP last failed: 0 clear, 1 ignored, 2 permanent, 3 temporary */
+    DIALCHISEL_PLACE_C_BR_1 = 44,
+    DIALCHISEL_PLACE_C_R_1 = 45,
+    DIALCHISEL_PLACE_C_PDP_1 = 46,       /* 4 places: C-PDP-1 to C-PDP-4 */
+    DIALCHISEL_PLACE_LENGTHS = 50,       /* 5 places: how many times each list holds, 0 to 255 */
+    DIALCHISEL_PLACE_LISTS = 55          /* 5 lists of 255 places, in the order of enum dialchisel_list */
+};
+
+/* The five lists of permit times: the newest 255, oldest first; unused places are 0. List k begins at DIALCHISEL_PLACE_LISTS + 255 * k. */
+enum dialchisel_list {
+    DIALCHISEL_LIST_ATTACH = 0,     /* kinds 0 and 1 */
+    DIALCHISEL_LIST_ACTIVATION = 1, /* kind 2 */
+    DIALCHISEL_LIST_PDP = 2,        /* kinds 2 and 4 */
+    DIALCHISEL_LIST_SMS = 3,        /* kind 3 */
+    DIALCHISEL_LIST_RESET = 4       /* kind 5 */
+};
+
+#ifdef __cplusplus
+}
+#endif
+
+#endif

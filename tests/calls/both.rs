@@ -1,0 +1,333 @@
+//! One call made twice, by the linked library and by the model, and all that is compared afterwards.
+use crate::gate::c;
+use crate::model::{self, *};
+use std::collections::BTreeMap;
+use std::fmt::Display;
+use std::process::exit;
+
+/// The generator: xorshift, with a multiplication at the end.
+pub struct Random(pub u64);
+
+impl Random {
+    pub fn next(&mut self) -> u64 {
+        self.0 ^= self.0 >> 12;
+        self.0 ^= self.0 << 25;
+        self.0 ^= self.0 >> 27;
+        self.0.wrapping_mul(0x2545_f491_4f6c_dd1d)
+    }
+
+    pub fn below(&mut self, end: u64) -> u64 {
+        (self.next() >> 8) % end
+    }
+
+    pub fn number(&mut self, end: u32) -> u32 {
+        self.below(u64::from(end)) as u32
+    }
+
+    pub fn pick<T: Copy>(&mut self, from: &[T]) -> T {
+        from[self.below(from.len() as u64) as usize]
+    }
+
+    pub fn chance(&mut self, percent: u64) -> bool {
+        self.below(100) < percent
+    }
+}
+
+/// A buffer as it is lent to a call, between two guards.
+#[derive(Clone)]
+pub struct Lent<T> {
+    all: Vec<T>,
+    start: usize,
+    count: usize,
+}
+
+impl<T: Copy + PartialEq + Display> Lent<T> {
+    pub fn new(part: &[T], start: usize, mut guard: impl FnMut() -> T) -> Lent<T> {
+        let mut all: Vec<T> = (0..start).map(|_| guard()).collect();
+        all.extend_from_slice(part);
+        all.extend((0..40).map(|_| guard()));
+        Lent { all, start, count: part.len() }
+    }
+
+    pub fn part(&self) -> &[T] {
+        &self.all[self.start..self.start + self.count]
+    }
+
+    pub fn part_mut(&mut self) -> &mut [T] {
+        &mut self.all[self.start..self.start + self.count]
+    }
+
+    /// The pointer to lend. Where the count is 0 any pointer will do: none, a crooked one, or one into the guard.
+    pub fn pointer(&mut self, odd: u64) -> *mut T {
+        match (self.count, odd % 3) {
+            (0, 0) => std::ptr::null_mut(),
+            (0, 1) => std::ptr::without_provenance_mut(1),
+            _ => self.all[self.start..].as_mut_ptr(),
+        }
+    }
+
+    /// The first place where two differ, the guards included.
+    pub fn difference(&self, name: &str, model: &Lent<T>) -> Option<String> {
+        if self.all == model.all {
+            return None;
+        }
+        let at = (0..self.all.len()).find(|&i| self.all[i] != model.all[i])?;
+        let place = at as i64 - self.start as i64;
+        let guard = if place < 0 || place >= self.count as i64 { " (guard)" } else { "" };
+        Some(format!("{name}, place {place}{guard}: library {}, model {}", self.all[at], model.all[at]))
+    }
+}
+
+/// What an opening is given.
+#[derive(Clone, Debug)]
+pub struct Opening {
+    pub time: u32,
+    pub imsi: u64,
+    pub intervals: Vec<u32>,
+    pub nfm: u32,
+    pub rpm: u32,
+    pub a1: u32,
+    pub s1: u32,
+    pub params: Vec<u8>,
+    pub leaks: Vec<u8>,
+    pub counters: Vec<u8>,
+}
+
+/// A call with its arguments, all but the state.
+#[derive(Clone, Debug)]
+pub enum Call {
+    Open(Opening),
+    Request { time: u32, kind: u32 },
+    Granted { time: u32, service: u32 },
+    Rejected { time: u32, service: u32, cause: u32, second: u32 },
+    Silent { time: u32, service: u32 },
+    Dropped { time: u32 },
+    Tick { time: u32 },
+    Command { line: Vec<u8>, room: usize },
+    Counters { room: usize },
+}
+
+impl Call {
+    fn name(&self) -> &'static str {
+        match self {
+            Call::Open(_) => "open",
+            Call::Request { .. } => "request",
+            Call::Granted { .. } => "granted",
+            Call::Rejected { .. } => "rejected",
+            Call::Silent { .. } => "silent",
+            Call::Dropped { .. } => "dropped",
+            Call::Tick { .. } => "tick",
+            Call::Command { .. } => "command",
+            Call::Counters { .. } => "counters",
+        }
+    }
+
+    fn room(&self) -> usize {
+        match self {
+            Call::Command { room, .. } | Call::Counters { room } => *room,
+            _ => 0,
+        }
+    }
+}
+
+/// One state, kept twice: as the library has it and as the model has it.
+pub struct Pair {
+    library: Lent<u32>,
+    pub model: Lent<u32>,
+}
+
+impl Pair {
+    pub fn new(random: &mut Random, state: &[u32]) -> Pair {
+        let library = Lent::new(state, 16, || random.next() as u32);
+        Pair { model: library.clone(), library }
+    }
+}
+
+/// The buffers that a call only reads, as they are lent to the library.
+struct Inputs {
+    numbers: Lent<u32>,
+    bytes: [Lent<u8>; 3],
+}
+
+impl Inputs {
+    fn of(call: &Call, random: &mut Random) -> Inputs {
+        let none: &[u8] = &[];
+        let (numbers, bytes): (&[u32], [&[u8]; 3]) = match call {
+            Call::Open(o) => (&o.intervals, [&o.params, &o.leaks, &o.counters]),
+            Call::Command { line, .. } => (&[], [line, none, none]),
+            _ => (&[], [none; 3]),
+        };
+        // What lies beyond the end would be well read, if it were read.
+        let numbers = Lent::new(numbers, 4, || random.pick(&[60, 65_535, 1]));
+        let start = random.below(9) as usize;
+        let bytes = bytes.map(|part| Lent::new(part, start, || random.pick(b"\r\r\r0015,?\0\0")));
+        Inputs { numbers, bytes }
+    }
+}
+
+/// The library's answer. Two const buffers with the same bytes are lent as one, which the interface allows.
+fn by_library(state: &mut Lent<u32>, call: &Call, inputs: &mut Inputs, room: &mut Lent<u8>, odd: u64) -> Answer {
+    let (s, n) = (state.pointer(odd), state.count);
+    let (out, out_count) = (room.pointer(odd), room.count);
+    let numbers = (inputs.numbers.pointer(odd) as *const u32, inputs.numbers.count);
+    let mut bytes = [0, 1, 2].map(|i| (inputs.bytes[i].pointer(odd) as *const u8, inputs.bytes[i].count));
+    if inputs.bytes[0].part() == inputs.bytes[2].part() {
+        bytes[2] = bytes[0];
+    }
+    let [first, second_file, third] = bytes;
+    let answer = unsafe {
+        match *call {
+            Call::Open(Opening { time, imsi, nfm, rpm, a1, s1, .. }) => c::dialchisel_open(
+                s,
+                n,
+                time,
+                imsi,
+                numbers.0,
+                numbers.1,
+                nfm,
+                rpm,
+                a1,
+                s1,
+                first.0,
+                first.1,
+                second_file.0,
+                second_file.1,
+                third.0,
+                third.1,
+            ),
+            Call::Request { time, kind } => c::dialchisel_request(s, n, time, kind),
+            Call::Granted { time, service } => c::dialchisel_granted(s, n, time, service),
+            Call::Rejected { time, service, cause, second } => c::dialchisel_rejected(s, n, time, service, cause, second),
+            Call::Silent { time, service } => c::dialchisel_silent(s, n, time, service),
+            Call::Dropped { time } => c::dialchisel_dropped(s, n, time),
+            Call::Tick { time } => c::dialchisel_tick(s, n, time),
+            Call::Command { .. } => c::dialchisel_command(s, n, first.0, first.1, out, out_count),
+            Call::Counters { .. } => c::dialchisel_counters(s, n, out, out_count),
+        }
+    };
+    (answer.number, answer.second)
+}
+
+/// The model's answer.
+pub fn by_model(s: &mut [u32], call: &Call, room: &mut [u8]) -> Answer {
+    match call {
+        Call::Open(o) => model::open(s, o.time, o.imsi, &o.intervals, o.nfm, o.rpm, o.a1, o.s1, &o.params, &o.leaks, &o.counters),
+        Call::Request { time, kind } => model::request(s, *time, *kind),
+        Call::Granted { time, service } => model::granted(s, *time, *service),
+        Call::Rejected { time, service, cause, second } => model::rejected(s, *time, *service, *cause, *second),
+        Call::Silent { time, service } => model::silent(s, *time, *service),
+        Call::Dropped { time } => model::dropped(s, *time),
+        Call::Tick { time } => model::tick(s, *time),
+        Call::Command { line, .. } => model::command(s, line, room),
+        Call::Counters { .. } => model::counters(s, room),
+    }
+}
+
+/// The comparison: the generator, and what was counted.
+pub struct Bench {
+    pub seed: u64,
+    pub random: Random,
+    pub calls: u64,
+    pub kinds: BTreeMap<&'static str, u64>,
+    pub answers: BTreeMap<u32, u64>,
+    /// Permits on a list that was full, and blocks by a limit of 254 or 255.
+    pub cuts: [u64; 5],
+    pub high: BTreeMap<u32, u64>,
+}
+
+impl Bench {
+    /// Makes one call on both, compares all there is, and gives back the answer.
+    pub fn call(&mut self, pair: &mut Pair, call: &Call) -> Answer {
+        self.calls += 1;
+        *self.kinds.entry(call.name()).or_default() += 1;
+        let bytes: Vec<u8> = (0..call.room()).map(|_| self.random.next() as u8).collect();
+        let start = self.random.below(9) as usize;
+        let mut library_room = Lent::new(&bytes, start, || self.random.next() as u8);
+        let mut model_room = library_room.clone();
+        let mut inputs = Inputs::of(call, &mut self.random);
+        let (numbers, files) = (inputs.numbers.clone(), inputs.bytes.clone());
+        let full = full_lists(pair.model.part());
+
+        let odd = self.random.next();
+        let library = by_library(&mut pair.library, call, &mut inputs, &mut library_room, odd);
+        let model = by_model(pair.model.part_mut(), call, model_room.part_mut());
+
+        if library != model {
+            self.fail(call, &format!("answer: library {library:?}, model {model:?}"));
+        }
+        let differences = [
+            pair.library.difference("state", &pair.model),
+            library_room.difference("room", &model_room),
+            inputs.numbers.difference("intervals", &numbers),
+            inputs.bytes[0].difference("first bytes lent", &files[0]),
+            inputs.bytes[1].difference("second bytes lent", &files[1]),
+            inputs.bytes[2].difference("third bytes lent", &files[2]),
+        ];
+        if let Some(difference) = differences.into_iter().flatten().next() {
+            self.fail(call, &difference);
+        }
+        if !(1..=5).contains(&model.0) && !good(pair.model.part()) {
+            self.fail(call, "the state after it is bad");
+        }
+        *self.answers.entry(model.0).or_default() += 1;
+        self.count_long(call, model, full, pair.model.part());
+        model
+    }
+
+    /// Counts permits that made the oldest go, and blocks that need a long list.
+    fn count_long(&mut self, call: &Call, answer: Answer, full: [bool; 5], s: &[u32]) {
+        if let (Call::Request { kind, .. }, (0, _)) = (call, answer) {
+            let lists: &[usize] = [&[ATTACH][..], &[ATTACH], &[ACTIVATION, PDP], &[SMS], &[PDP], &[RESET]][*kind as usize];
+            for &list in lists {
+                self.cuts[list] += u64::from(full[list]);
+            }
+        }
+        for (number, limit) in [(11, N1), (13, F1), (14, F2), (15, F3), (16, F4), (17, A1), (18, S1)] {
+            if answer.0 == number && s[limit] >= 254 {
+                *self.high.entry(number).or_default() += 1;
+            }
+        }
+    }
+
+    /// Tells the difference and ends the program.
+    pub fn fail(&self, call: &Call, what: &str) -> ! {
+        println!("compare: seed {}, call {}: {call:?}", self.seed, self.calls);
+        if let Call::Command { line, .. } = call {
+            println!("compare: the line is \"{}\"", line.escape_ascii());
+        }
+        println!("compare: {what}");
+        exit(1)
+    }
+
+    pub fn pair(&mut self, state: &[u32]) -> Pair {
+        Pair::new(&mut self.random, state)
+    }
+
+    /// A pair that was opened so; whatever was in it before.
+    pub fn opened(&mut self, opening: &Opening) -> Pair {
+        let rubbish: Vec<u32> = (0..PLACES).map(|_| self.random.next() as u32).collect();
+        let mut pair = self.pair(&rubbish);
+        self.expect(&mut pair, Call::Open(opening.clone()), (0, 0));
+        pair
+    }
+
+    /// A call whose answer the document gives.
+    pub fn expect(&mut self, pair: &mut Pair, call: Call, answer: Answer) {
+        let given = self.call(pair, &call);
+        if given != answer {
+            self.fail(&call, &format!("answer: both {given:?}, the document {answer:?}"));
+        }
+    }
+}
+
+/// Which of the five lists hold 255 times.
+fn full_lists(s: &[u32]) -> [bool; 5] {
+    [0, 1, 2, 3, 4].map(|k| s.get(LENGTHS + k) == Some(&(LIST_ROOM as u32)))
+}
+
+/// A card file: these bytes, then zeros.
+pub fn file(length: usize, first: &[u8]) -> Vec<u8> {
+    let mut bytes = first.to_vec();
+    bytes.resize(length, 0);
+    bytes
+}

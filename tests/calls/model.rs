@@ -1,0 +1,455 @@
+//! A model of the nine calls on the buffer of 1,330 numbers, written from document 01 alone. It is plain and slow on purpose: each part
+//! names the heading of the document that it follows, to be read beside it. It never panics, whatever it is given.
+#![forbid(unsafe_code)]
+
+/// The two numbers given back.
+pub type Answer = (u32, u32);
+
+// "The buffer": the places.
+pub const PLACES: usize = 1330;
+pub const LETTERS: usize = 0;
+pub const VERSION: usize = 1;
+pub const OPENED: usize = 2;
+pub const LAST: usize = 3;
+pub const IMSI: usize = 4;
+pub const NFM: usize = 6;
+pub const START_TIMER: usize = 7;
+pub const RPM: usize = 8;
+pub const INTERVAL_COUNT: usize = 9;
+pub const INTERVALS: usize = 10;
+pub const N1: usize = 20;
+pub const F1: usize = 22;
+pub const F2: usize = 23;
+pub const F3: usize = 24;
+pub const F4: usize = 25;
+pub const A1: usize = 26;
+pub const S1: usize = 27;
+pub const LEAK_RATES: usize = 28;
+pub const FAILURES: usize = 31;
+pub const ENDS: usize = 35;
+pub const STANDINGS: usize = 39;
+pub const MOOD: usize = 43;
+pub const C_BR_1: usize = 44;
+pub const C_R_1: usize = 45;
+pub const C_PDP_1: usize = 46;
+pub const LENGTHS: usize = 50;
+pub const LISTS: usize = 55;
+pub const LIST_ROOM: usize = 255;
+
+// The five lists, in their order.
+pub const ATTACH: usize = 0;
+pub const ACTIVATION: usize = 1;
+pub const PDP: usize = 2;
+pub const SMS: usize = 3;
+pub const RESET: usize = 4;
+
+// Standings and moods.
+pub const IDLE: u32 = 0;
+pub const ASKED: u32 = 1;
+pub const UP: u32 = 2;
+const CLEAR: u32 = 0;
+const IGNORED: u32 = 1;
+const PERMANENT: u32 = 2;
+const TEMPORARY: u32 = 3;
+
+pub const MAGIC: u32 = 0x0057_5250;
+pub const LATEST: u32 = 4_000_000_000;
+pub const LATEST_END: u32 = 4_000_131_069;
+pub const LARGEST_IMSI: u64 = 999_999_999_999_999;
+pub const HOUR: u32 = 3_600;
+
+/// "A buffer that breaks any line here is bad."
+pub fn good(s: &[u32]) -> bool {
+    s.len() == PLACES
+        && s[LETTERS] == MAGIC
+        && s[VERSION] == 1
+        && s[OPENED] <= s[LAST]
+        && s[LAST] <= LATEST
+        && imsi(s) <= LARGEST_IMSI
+        && s[NFM] <= 1
+        && s[START_TIMER] <= 1
+        && s[RPM] <= 1
+        && good_interval_places(s)
+        && s[20..=34].iter().all(|&n| n <= 255)
+        && good_ends(s)
+        && s[39] <= 1
+        && s[40] <= 1
+        && s[41] <= 2
+        && s[42] <= 1
+        && s[MOOD] <= 3
+        && s[44..=49].iter().all(|&n| n <= 255)
+        && (0..5).all(|k| good_list(s, k))
+}
+
+/// Places 4 and 5.
+fn imsi(s: &[u32]) -> u64 {
+    u64::from(s[IMSI]) * 4_294_967_296 + u64::from(s[IMSI + 1])
+}
+
+/// Places 9 and 10-19.
+fn good_interval_places(s: &[u32]) -> bool {
+    let count = s[INTERVAL_COUNT] as usize;
+    count <= 10 && good_intervals(&s[10..10 + count]) && s[10 + count..20].iter().all(|&n| n == 0)
+}
+
+/// One to ten intervals, "1 to 65,535 s, none below the one before".
+fn good_intervals(intervals: &[u32]) -> bool {
+    (1..=10).contains(&intervals.len())
+        && intervals.iter().all(|&n| (1..=65_535).contains(&n))
+        && intervals.windows(2).all(|two| two[0] <= two[1])
+}
+
+/// Places 35-38.
+fn good_ends(s: &[u32]) -> bool {
+    let ends = &s[35..=38];
+    ends.iter().all(|&end| end <= LATEST_END)
+        && (s[NFM] != 0 || ends.iter().all(|&end| end == 0))
+        && (s[STANDINGS + 2] != UP || s[ENDS + 2] == 0)
+}
+
+/// Places 50-54 and 55-1329, for list k.
+fn good_list(s: &[u32], k: usize) -> bool {
+    let length = s[LENGTHS + k] as usize;
+    if length > LIST_ROOM {
+        return false;
+    }
+    let (times, unused) = s[LISTS + LIST_ROOM * k..LISTS + LIST_ROOM * (k + 1)].split_at(length);
+    times.windows(2).all(|two| two[0] <= two[1]) && times.iter().all(|&p| s[OPENED] <= p && p <= s[LAST]) && unused.iter().all(|&p| p == 0)
+}
+
+/// "Card files": a file has its length, and every byte after the first `used` is 0.
+fn good_file(file: &[u8], length: usize, used: usize) -> bool {
+    file.len() == length && file[used..].iter().all(|&byte| byte == 0)
+}
+
+/// Opening: "given the time, IMSI, intervals, NFM, RPM, A1, S1 and the three files".
+#[allow(clippy::too_many_arguments)]
+pub fn open(
+    s: &mut [u32],
+    time: u32,
+    imsi: u64,
+    intervals: &[u32],
+    nfm: u32,
+    rpm: u32,
+    a1: u32,
+    s1: u32,
+    params: &[u8],
+    leaks: &[u8],
+    counters: &[u8],
+) -> Answer {
+    if s.len() != PLACES {
+        return (1, 0);
+    }
+    let settings = imsi <= LARGEST_IMSI && good_intervals(intervals) && nfm <= 1 && rpm <= 1 && a1 <= 255 && s1 <= 255;
+    let files = good_file(params, 32, 6) && good_file(leaks, 6, 3) && good_file(counters, 32, 6);
+    if !settings || !files {
+        return (2, 0);
+    }
+    if time > LATEST {
+        return (3, 0);
+    }
+    // "A new buffer is idle and clear, ... failures and ends 0, lists empty; Start Timer is 0": all that is not named below is 0.
+    s.fill(0);
+    s[LETTERS] = MAGIC;
+    s[VERSION] = 1;
+    s[OPENED] = time;
+    s[LAST] = time;
+    s[IMSI] = (imsi / 4_294_967_296) as u32;
+    s[IMSI + 1] = (imsi % 4_294_967_296) as u32;
+    s[NFM] = nfm;
+    s[RPM] = rpm;
+    set_intervals(s, intervals);
+    for i in 0..6 {
+        s[20 + i] = u32::from(params[i]);
+        s[44 + i] = u32::from(counters[i]);
+    }
+    s[A1] = a1;
+    s[S1] = s1;
+    for i in 0..3 {
+        s[LEAK_RATES + i] = u32::from(leaks[i]);
+    }
+    (0, 0)
+}
+
+fn set_intervals(s: &mut [u32], intervals: &[u32]) {
+    s[10..=19].fill(0);
+    s[INTERVAL_COUNT] = intervals.len() as u32;
+    s[10..10 + intervals.len()].copy_from_slice(intervals);
+}
+
+/// Checks 1 to 4 of a timed call, in their order; the clock where all pass. `fits` is asked only of arguments in range.
+fn accept(s: &mut [u32], in_range: bool, time: u32, fits: impl Fn(&[u32]) -> bool) -> Result<(), Answer> {
+    if !good(s) {
+        return Err((1, 0));
+    }
+    if !in_range {
+        return Err((2, 0));
+    }
+    if time < s[LAST] || time > LATEST {
+        return Err((3, 0));
+    }
+    if !fits(s) {
+        return Err((4, 0));
+    }
+    move_clock(s, time);
+    Ok(())
+}
+
+/// "Clock and leaks": LR-1 serves C-BR-1, LR-2 C-R-1, LR-3 the four C-PDP.
+fn move_clock(s: &mut [u32], time: u32) {
+    let (opened, old) = (s[OPENED], s[LAST]);
+    for (counter, rate) in [(C_BR_1, 1), (C_R_1, 2), (C_PDP_1, 3), (C_PDP_1 + 1, 3), (C_PDP_1 + 2, 3), (C_PDP_1 + 3, 3)] {
+        let hours = s[LEAK_RATES + rate - 1];
+        let points = leak_points(hours, opened, time) - leak_points(hours, opened, old);
+        s[counter] = s[counter].saturating_sub(points);
+    }
+    s[LAST] = time;
+}
+
+/// How many leak points, "the opening time plus each positive multiple of rate x 3,600 s", there are up to t.
+fn leak_points(rate: u32, opened: u32, t: u32) -> u32 {
+    if rate == 0 {
+        0
+    } else {
+        (t - opened) / (rate * HOUR)
+    }
+}
+
+/// "Services and requests".
+pub fn request(s: &mut [u32], time: u32, kind: u32) -> Answer {
+    let service = kind as usize;
+    let fits = |s: &[u32]| match kind {
+        0..=3 => s[STANDINGS + service] == IDLE,
+        4 => s[STANDINGS + 2] == UP,
+        _ => true,
+    };
+    if let Err(refused) = accept(s, kind <= 5, time, fits) {
+        return refused;
+    }
+    if kind <= 3 && time < s[ENDS + service] {
+        return (10, s[ENDS + service] - time);
+    }
+    if let Some((number, counter)) = first_limit(s, time, kind) {
+        if let Some(place) = counter {
+            s[place] = (s[place] + 1).min(255);
+        }
+        return (number, 0);
+    }
+    match kind {
+        0..=3 => s[STANDINGS + service] = ASKED,
+        4 => s[STANDINGS + 2] = IDLE,
+        _ => s[39..=42].fill(IDLE),
+    }
+    let lists: &[usize] = match kind {
+        0 | 1 => &[ATTACH],
+        2 => &[ACTIVATION, PDP],
+        3 => &[SMS],
+        4 => &[PDP],
+        _ => &[RESET],
+    };
+    for &list in lists {
+        append(s, list, time);
+    }
+    (0, 0)
+}
+
+/// The first limit that blocks, with the counter that it raises: "11, 13, 14, 15, 16, 17, 18; the first alone acts".
+fn first_limit(s: &[u32], time: u32, kind: u32) -> Option<(u32, Option<usize>)> {
+    let rpm = s[RPM] == 1;
+    let mood = s[MOOD];
+    let limits = [
+        (11, s[N1], RESET, rpm && kind == 5, Some(C_BR_1)),
+        (13, s[F1], ACTIVATION, rpm && kind == 2 && mood == IGNORED, Some(C_PDP_1)),
+        (14, s[F2], ACTIVATION, rpm && kind == 2 && mood == PERMANENT, Some(C_PDP_1 + 1)),
+        (15, s[F3], ACTIVATION, rpm && kind == 2 && mood == TEMPORARY, Some(C_PDP_1 + 2)),
+        (16, s[F4], PDP, rpm && (kind == 2 || kind == 4), Some(C_PDP_1 + 3)),
+        (17, s[A1], ATTACH, kind == 0 || kind == 1, None),
+        (18, s[S1], SMS, kind == 3, None),
+    ];
+    for (number, limit, list, applies, counter) in limits {
+        if applies && limit != 0 && in_the_hour(s, list, time) >= limit {
+            return Some((number, counter));
+        }
+    }
+    None
+}
+
+/// "In the hour of t" means a permit time p with p <= t and p + 3,600 > t.
+fn in_the_hour(s: &[u32], list: usize, t: u32) -> u32 {
+    let start = LISTS + LIST_ROOM * list;
+    let times = &s[start..start + s[LENGTHS + list] as usize];
+    times.iter().filter(|&&p| p <= t && p + HOUR > t).count() as u32
+}
+
+/// "A list holds the newest permit times, oldest first ... At 255 the oldest goes."
+fn append(s: &mut [u32], list: usize, time: u32) {
+    let start = LISTS + LIST_ROOM * list;
+    let length = s[LENGTHS + list] as usize;
+    if length == LIST_ROOM {
+        s.copy_within(start + 1..start + LIST_ROOM, start);
+        s[start + LIST_ROOM - 1] = time;
+    } else {
+        s[start + length] = time;
+        s[LENGTHS + list] += 1;
+    }
+}
+
+/// "Granted, rejected and silent need standing 1 of services 0-3."
+fn asked(service: u32) -> impl Fn(&[u32]) -> bool {
+    move |s| s[STANDINGS + service as usize] == ASKED
+}
+
+pub fn granted(s: &mut [u32], time: u32, service: u32) -> Answer {
+    if let Err(refused) = accept(s, service <= 3, time, asked(service)) {
+        return refused;
+    }
+    s[FAILURES + service as usize] = 0;
+    s[ENDS + service as usize] = 0;
+    s[STANDINGS + service as usize] = IDLE;
+    if service == 2 {
+        s[STANDINGS + 2] = UP;
+        s[MOOD] = CLEAR;
+    }
+    (0, 0)
+}
+
+pub fn rejected(s: &mut [u32], time: u32, service: u32, cause: u32, second: u32) -> Answer {
+    let in_range = service <= 3 && cause <= 255 && second <= 1;
+    if let Err(refused) = accept(s, in_range, time, asked(service)) {
+        return refused;
+    }
+    s[STANDINGS + service as usize] = IDLE;
+    if service != 2 {
+        return back_off(s, time, service);
+    }
+    s[MOOD] = match cause {
+        8 | 27 | 28 | 29 | 32 | 33 => PERMANENT,
+        _ => TEMPORARY,
+    };
+    match cause {
+        8 | 26 | 27 | 29 | 30 | 31 | 32 | 33 | 35 => back_off(s, time, service),
+        28 => (21, 0),
+        34 if second == 1 => (22, 0),
+        34 => back_off(s, time, service),
+        _ => (23, 0),
+    }
+}
+
+pub fn silent(s: &mut [u32], time: u32, service: u32) -> Answer {
+    if let Err(refused) = accept(s, service <= 3, time, asked(service)) {
+        return refused;
+    }
+    s[STANDINGS + service as usize] = IDLE;
+    if service == 2 {
+        s[MOOD] = IGNORED;
+    }
+    back_off(s, time, service)
+}
+
+/// "To back off".
+fn back_off(s: &mut [u32], time: u32, service: u32) -> Answer {
+    if s[NFM] == 0 {
+        return (23, 0);
+    }
+    let failures = (s[FAILURES + service as usize] + 1).min(255);
+    let base = s[INTERVALS - 1 + failures.min(s[INTERVAL_COUNT]) as usize];
+    let wait = base + (imsi(s) % u64::from(base)) as u32;
+    s[FAILURES + service as usize] = failures;
+    s[ENDS + service as usize] = time + wait;
+    (20, wait)
+}
+
+/// "Dropped needs service 2 up and makes it idle."
+pub fn dropped(s: &mut [u32], time: u32) -> Answer {
+    if let Err(refused) = accept(s, true, time, |s| s[STANDINGS + 2] == UP) {
+        return refused;
+    }
+    s[STANDINGS + 2] = IDLE;
+    (0, 0)
+}
+
+/// "The clock call has only a time and does nothing more."
+pub fn tick(s: &mut [u32], time: u32) -> Answer {
+    match accept(s, true, time, |_| true) {
+        Err(refused) => refused,
+        Ok(()) => (0, 0),
+    }
+}
+
+/// "AT lines": what a line asks for.
+enum Order {
+    Read,
+    Flags(u32, Option<u32>),
+    Intervals(Vec<u32>),
+}
+
+/// What a line asks for, if it has one of the four forms.
+fn understood(line: &[u8]) -> Option<Order> {
+    if line.len() > 96 {
+        return None;
+    }
+    let text = line.strip_suffix(b"\r")?;
+    if let Some(rest) = text.strip_prefix(b"AT+NFM=") {
+        return match rest {
+            b"?" => Some(Order::Read),
+            [a @ b'0'..=b'1'] => Some(Order::Flags(flag(*a), None)),
+            [a @ b'0'..=b'1', b',', s @ b'0'..=b'1'] => Some(Order::Flags(flag(*a), Some(flag(*s)))),
+            _ => None,
+        };
+    }
+    let rest = text.strip_prefix(b"AT+NFMCI=")?;
+    let intervals: Option<Vec<u32>> = rest.split(|&byte| byte == b',').map(decimal).collect();
+    intervals.filter(|list| good_intervals(list)).map(Order::Intervals)
+}
+
+fn flag(digit: u8) -> u32 {
+    u32::from(digit == b'1')
+}
+
+/// "Decimals have no leading zero."
+fn decimal(digits: &[u8]) -> Option<u32> {
+    let leading_zero = digits.len() > 1 && digits[0] == b'0';
+    if digits.is_empty() || leading_zero || !digits.iter().all(u8::is_ascii_digit) {
+        return None;
+    }
+    std::str::from_utf8(digits).ok()?.parse().ok()
+}
+
+pub fn command(s: &mut [u32], line: &[u8], room: &mut [u8]) -> Answer {
+    if !good(s) || room.len() < 16 {
+        return (1, 0);
+    }
+    let Some(order) = understood(line) else {
+        return (5, 0);
+    };
+    let mut text = String::new();
+    match order {
+        Order::Read => text = format!("+NFM: {},{}\r\n", s[NFM], s[START_TIMER]),
+        Order::Flags(a, timer) => {
+            s[NFM] = a;
+            if a == 0 {
+                s[31..=34].fill(0);
+                s[35..=38].fill(0);
+            }
+            if let Some(on) = timer {
+                s[START_TIMER] = on;
+            }
+        }
+        Order::Intervals(intervals) => set_intervals(s, &intervals),
+    }
+    text += "OK\r\n";
+    room[..text.len()].copy_from_slice(text.as_bytes());
+    (0, text.len() as u32)
+}
+
+/// "Writing counters needs exactly 32 bytes of room and does not move the clock."
+pub fn counters(s: &mut [u32], room: &mut [u8]) -> Answer {
+    if !good(s) || room.len() != 32 {
+        return (1, 0);
+    }
+    room.fill(0);
+    for i in 0..6 {
+        room[i] = s[44 + i] as u8;
+    }
+    (0, 32)
+}

@@ -1,0 +1,259 @@
+//! A safe wrapper in Rust over the C interface: a `Gate` owns its state, each call is a method, and each answer is a `Verdict`. It needs
+//! only `core`, allocates nothing and never panics. include/dialchisel.h says what each call does.
+
+/// The C interface, as include/dialchisel.h has it.
+pub mod c {
+    #[repr(C)]
+    #[derive(Clone, Copy, Debug, PartialEq, Eq)]
+    pub struct Answer {
+        pub number: u32,
+        pub second: u32,
+    }
+
+    extern "C" {
+        #[allow(clippy::too_many_arguments)]
+        pub fn dialchisel_open(
+            state: *mut u32,
+            state_count: usize,
+            time: u32,
+            imsi: u64,
+            intervals: *const u32,
+            intervals_count: usize,
+            nfm: u32,
+            rpm: u32,
+            a1: u32,
+            s1: u32,
+            params: *const u8,
+            params_count: usize,
+            leaks: *const u8,
+            leaks_count: usize,
+            counters: *const u8,
+            counters_count: usize,
+        ) -> Answer;
+        pub fn dialchisel_request(state: *mut u32, state_count: usize, time: u32, kind: u32) -> Answer;
+        pub fn dialchisel_granted(state: *mut u32, state_count: usize, time: u32, service: u32) -> Answer;
+        pub fn dialchisel_rejected(state: *mut u32, state_count: usize, time: u32, service: u32, cause: u32, second: u32) -> Answer;
+        pub fn dialchisel_silent(state: *mut u32, state_count: usize, time: u32, service: u32) -> Answer;
+        pub fn dialchisel_dropped(state: *mut u32, state_count: usize, time: u32) -> Answer;
+        pub fn dialchisel_tick(state: *mut u32, state_count: usize, time: u32) -> Answer;
+        pub fn dialchisel_command(
+            state: *mut u32,
+            state_count: usize,
+            line: *const u8,
+            line_count: usize,
+            room: *mut u8,
+            room_count: usize,
+        ) -> Answer;
+        pub fn dialchisel_counters(state: *mut u32, state_count: usize, room: *mut u8, room_count: usize) -> Answer;
+    }
+}
+
+/// How many numbers a state has.
+pub const STATE: usize = 1330;
+
+/// What a request asks for.
+#[derive(Clone, Copy, Debug, PartialEq, Eq)]
+pub enum Request {
+    GsmRegistration = 0,
+    GprsRegistration = 1,
+    PdpActivation = 2,
+    Sms = 3,
+    PdpDeactivation = 4,
+    ModuleReset = 5,
+}
+
+/// Whom an outcome comes from.
+#[derive(Clone, Copy, Debug, PartialEq, Eq)]
+pub enum Service {
+    Gsm = 0,
+    Gprs = 1,
+    Pdp = 2,
+    Sms = 3,
+}
+
+/// What a call gave back.
+#[derive(Clone, Copy, Debug, PartialEq, Eq)]
+pub enum Verdict {
+    /// Done or permitted; the bytes written by `command` and `counters`, else 0.
+    Done(u32),
+    /// Nothing changed.
+    Refused(Refusal),
+    /// The request must not be sent.
+    Blocked(Block),
+    /// The outcome is taken; what to do next.
+    Advice(Advice),
+    /// A number that this wrapper does not know. Treat it as "no".
+    Unknown { number: u32, second: u32 },
+}
+
+/// Why nothing was done.
+#[derive(Clone, Copy, Debug, PartialEq, Eq)]
+pub enum Refusal {
+    /// The state is damaged, or a room has the wrong size.
+    Buffer,
+    /// An argument is out of range, or a card file is bad.
+    Range,
+    /// The time is below the last one or above 4,000,000,000.
+    Time,
+    /// The service does not stand where the call needs it.
+    Standing,
+    /// The AT line has none of the four forms.
+    Line,
+}
+
+/// The rule that forbids a request.
+#[derive(Clone, Copy, Debug, PartialEq, Eq)]
+pub enum Block {
+    /// A back-off runs, with so many seconds left.
+    BackOff(u32),
+    N1,
+    F1,
+    F2,
+    F3,
+    F4,
+    A1,
+    S1,
+}
+
+/// What to do after an outcome.
+#[derive(Clone, Copy, Debug, PartialEq, Eq)]
+pub enum Advice {
+    /// A back-off of so many seconds began.
+    BackedOff(u32),
+    Reattach,
+    OtherNetwork,
+    As3gpp,
+}
+
+impl From<c::Answer> for Verdict {
+    fn from(answer: c::Answer) -> Verdict {
+        let c::Answer { number, second } = answer;
+        match number {
+            0 => Verdict::Done(second),
+            1 => Verdict::Refused(Refusal::Buffer),
+            2 => Verdict::Refused(Refusal::Range),
+            3 => Verdict::Refused(Refusal::Time),
+            4 => Verdict::Refused(Refusal::Standing),
+            5 => Verdict::Refused(Refusal::Line),
+            10 => Verdict::Blocked(Block::BackOff(second)),
+            11 => Verdict::Blocked(Block::N1),
+            13 => Verdict::Blocked(Block::F1),
+            14 => Verdict::Blocked(Block::F2),
+            15 => Verdict::Blocked(Block::F3),
+            16 => Verdict::Blocked(Block::F4),
+            17 => Verdict::Blocked(Block::A1),
+            18 => Verdict::Blocked(Block::S1),
+            20 => Verdict::Advice(Advice::BackedOff(second)),
+            21 => Verdict::Advice(Advice::Reattach),
+            22 => Verdict::Advice(Advice::OtherNetwork),
+            23 => Verdict::Advice(Advice::As3gpp),
+            _ => Verdict::Unknown { number, second },
+        }
+    }
+}
+
+/// What a gate is opened with.
+#[derive(Clone, Copy, Debug)]
+pub struct Settings<'a> {
+    pub time: u32,
+    pub imsi: u64,
+    pub intervals: &'a [u32],
+    pub nfm: bool,
+    pub rpm: bool,
+    pub a1: u8,
+    pub s1: u8,
+    pub parameters: &'a [u8],
+    pub leak_rates: &'a [u8],
+    pub counters: &'a [u8],
+}
+
+/// A gate with its state. Each call borrows it whole, so no other call can run on it at the same time.
+#[derive(Clone)]
+pub struct Gate {
+    state: [u32; STATE],
+}
+
+impl Gate {
+    /// A gate opened with these settings, or why it was refused.
+    pub fn open(settings: &Settings) -> Result<Gate, Verdict> {
+        let mut gate = Gate { state: [0; STATE] };
+        match gate.reopen(settings) {
+            Verdict::Done(_) => Ok(gate),
+            other => Err(other),
+        }
+    }
+
+    /// A gate on a state that was saved. A damaged one is refused by every call but `reopen`.
+    pub fn restored(state: [u32; STATE]) -> Gate {
+        Gate { state }
+    }
+
+    /// The state, to be read or saved.
+    pub fn state(&self) -> &[u32; STATE] {
+        &self.state
+    }
+
+    /// Opens this gate anew; a refusal leaves it as it was.
+    pub fn reopen(&mut self, settings: &Settings) -> Verdict {
+        let Settings { time, imsi, intervals, nfm, rpm, a1, s1, parameters, leak_rates, counters } = *settings;
+        // SAFETY (here and below): each pointer and count come from one slice, which is borrowed, the state alone for writing, until the
+        // call returns.
+        unsafe {
+            c::dialchisel_open(
+                self.state.as_mut_ptr(),
+                STATE,
+                time,
+                imsi,
+                intervals.as_ptr(),
+                intervals.len(),
+                u32::from(nfm),
+                u32::from(rpm),
+                u32::from(a1),
+                u32::from(s1),
+                parameters.as_ptr(),
+                parameters.len(),
+                leak_rates.as_ptr(),
+                leak_rates.len(),
+                counters.as_ptr(),
+                counters.len(),
+            )
+        }
+        .into()
+    }
+
+    pub fn request(&mut self, time: u32, request: Request) -> Verdict {
+        unsafe { c::dialchisel_request(self.state.as_mut_ptr(), STATE, time, request as u32) }.into()
+    }
+
+    pub fn granted(&mut self, time: u32, service: Service) -> Verdict {
+        unsafe { c::dialchisel_granted(self.state.as_mut_ptr(), STATE, time, service as u32) }.into()
+    }
+
+    pub fn rejected(&mut self, time: u32, service: Service, cause: u8, second_network: bool) -> Verdict {
+        let (service, cause, second) = (service as u32, u32::from(cause), u32::from(second_network));
+        unsafe { c::dialchisel_rejected(self.state.as_mut_ptr(), STATE, time, service, cause, second) }.into()
+    }
+
+    pub fn silent(&mut self, time: u32, service: Service) -> Verdict {
+        unsafe { c::dialchisel_silent(self.state.as_mut_ptr(), STATE, time, service as u32) }.into()
+    }
+
+    pub fn dropped(&mut self, time: u32) -> Verdict {
+        unsafe { c::dialchisel_dropped(self.state.as_mut_ptr(), STATE, time) }.into()
+    }
+
+    pub fn tick(&mut self, time: u32) -> Verdict {
+        unsafe { c::dialchisel_tick(self.state.as_mut_ptr(), STATE, time) }.into()
+    }
+
+    /// Obeys an AT line that ends in its CR; the answer's bytes go to the room.
+    pub fn command(&mut self, line: &[u8], room: &mut [u8]) -> Verdict {
+        let (out, count) = (room.as_mut_ptr(), room.len());
+        unsafe { c::dialchisel_command(self.state.as_mut_ptr(), STATE, line.as_ptr(), line.len(), out, count) }.into()
+    }
+
+    /// Writes the counter file for the card.
+    pub fn counters(&mut self, file: &mut [u8; 32]) -> Verdict {
+        unsafe { c::dialchisel_counters(self.state.as_mut_ptr(), STATE, file.as_mut_ptr(), file.len()) }.into()
+    }
+}

@@ -1,0 +1,113 @@
+/* A C program on the archive: document 01's printed example, refusals, AT lines, the counter file. It ends in failure on any surprise.
+ * It is C99, and C++17 too. */
+#include "dialchisel.h"
+
+#include <stdio.h>
+#include <string.h>
+
+static int looked, surprises;
+
+static void same(const char *what, struct dialchisel_answer got, uint32_t number, uint32_t second)
+{
+    looked++;
+    if (got.number == number && got.second == second)
+        return;
+    surprises++;
+    fprintf(stderr, "use.c: %s: %lu %lu, expected %lu %lu\n", what, (unsigned long)got.number, (unsigned long)got.second,
+            (unsigned long)number, (unsigned long)second);
+}
+
+static void is(const char *what, int holds)
+{
+    looked++;
+    if (holds)
+        return;
+    surprises++;
+    fprintf(stderr, "use.c: %s: not so\n", what);
+}
+
+static uint32_t state[DIALCHISEL_STATE];
+static const size_t count = DIALCHISEL_STATE;
+static const uint32_t intervals[] = {60, 120, 240};
+static const uint8_t zeros[32] = {0};
+
+/* Opens the state as the example has it, but for the state's count, the IMSI and the leak rate file's length. */
+static struct dialchisel_answer opened(size_t state_count, uint64_t imsi, size_t leaks_count)
+{
+    uint8_t counters[DIALCHISEL_COUNTER_FILE] = {0};
+    counters[5] = 255; /* C-PDP-4 */
+    return dialchisel_open(state, state_count, 1000, imsi, intervals, 3, 1, 1, 0, 2, zeros, DIALCHISEL_PARAMETER_FILE, zeros, leaks_count,
+                           counters, DIALCHISEL_COUNTER_FILE);
+}
+
+/* The printed example of document 01. */
+static void example(void)
+{
+    same("O", opened(count, 1010123456789u, DIALCHISEL_LEAK_FILE), DIALCHISEL_DONE, 0);
+    same("Q 1000 2", dialchisel_request(state, count, 1000, DIALCHISEL_PDP_ACTIVATION), DIALCHISEL_DONE, 0);
+    same("J 1010 2 26 0", dialchisel_rejected(state, count, 1010, DIALCHISEL_PDP, 26, 0), DIALCHISEL_BACKED_OFF, 89);
+    same("Q 1098 2", dialchisel_request(state, count, 1098, DIALCHISEL_PDP_ACTIVATION), DIALCHISEL_BLOCKED_BACKOFF, 1);
+    same("Q 1099 2", dialchisel_request(state, count, 1099, DIALCHISEL_PDP_ACTIVATION), DIALCHISEL_DONE, 0);
+    same("G 1100 2", dialchisel_granted(state, count, 1100, DIALCHISEL_PDP), DIALCHISEL_DONE, 0);
+    same("Q 1101 2", dialchisel_request(state, count, 1101, DIALCHISEL_PDP_ACTIVATION), DIALCHISEL_REFUSED_STANDING, 0);
+
+    is("last time", state[DIALCHISEL_PLACE_LAST] == 1100);
+    is("PDP is up", state[DIALCHISEL_PLACE_STANDINGS + DIALCHISEL_PDP] == 2);
+    is("two activations", state[DIALCHISEL_PLACE_LENGTHS + DIALCHISEL_LIST_ACTIVATION] == 2);
+    is("the newest", state[DIALCHISEL_PLACE_LISTS + 255 * DIALCHISEL_LIST_ACTIVATION + 1] == 1099);
+}
+
+/* Each refusal, and that none of them changes the state. */
+static void refusals(void)
+{
+    uint32_t before[DIALCHISEL_STATE];
+    uint8_t room[DIALCHISEL_COUNTER_FILE];
+    memcpy(before, state, sizeof before);
+    same("short state", opened(count - 1, 1, DIALCHISEL_LEAK_FILE), DIALCHISEL_REFUSED_BUFFER, 0);
+    same("no state", dialchisel_tick(NULL, 0, 1100), DIALCHISEL_REFUSED_BUFFER, 0);
+    same("small AT room", dialchisel_command(state, count, (const uint8_t *)"AT+NFM=?\r", 9, room, 15), DIALCHISEL_REFUSED_BUFFER, 0);
+    same("wrong counter room", dialchisel_counters(state, count, room, 31), DIALCHISEL_REFUSED_BUFFER, 0);
+    same("IMSI too large", opened(count, 1000000000000000u, DIALCHISEL_LEAK_FILE), DIALCHISEL_REFUSED_RANGE, 0);
+    same("leak rate file too long", opened(count, 1, DIALCHISEL_LEAK_FILE + 1), DIALCHISEL_REFUSED_RANGE, 0);
+    same("no such kind", dialchisel_request(state, count, 1100, 6), DIALCHISEL_REFUSED_RANGE, 0);
+    same("no such service", dialchisel_silent(state, count, 1100, 4), DIALCHISEL_REFUSED_RANGE, 0);
+    same("time went back", dialchisel_tick(state, count, 1099), DIALCHISEL_REFUSED_TIME, 0);
+    same("time too late", dialchisel_dropped(state, count, DIALCHISEL_LATEST + 1), DIALCHISEL_REFUSED_TIME, 0);
+    same("no CR", dialchisel_command(state, count, (const uint8_t *)"AT+NFM=1", 8, room, sizeof room), DIALCHISEL_REFUSED_LINE, 0);
+    same("no line", dialchisel_command(state, count, NULL, 0, room, sizeof room), DIALCHISEL_REFUSED_LINE, 0);
+    is("refusals change nothing", memcmp(before, state, sizeof before) == 0);
+}
+
+/* AT lines, a limit, the counter file. */
+static void bytes(void)
+{
+    uint8_t room[DIALCHISEL_AT_ROOM];
+    uint8_t file[DIALCHISEL_COUNTER_FILE];
+    uint8_t expected[DIALCHISEL_COUNTER_FILE] = {0};
+    expected[5] = 255;
+    memset(room, '.', sizeof room);
+    same("AT line", dialchisel_command(state, count, (const uint8_t *)"AT+NFM=0,1\r", 11, room, sizeof room), DIALCHISEL_DONE, 4);
+    is("its answer", memcmp(room, "OK\r\n............", sizeof room) == 0);
+    same("AT read", dialchisel_command(state, count, (const uint8_t *)"AT+NFM=?\r", 9, room, sizeof room), DIALCHISEL_DONE, 15);
+    is("its answer", memcmp(room, "+NFM: 0,1\r\nOK\r\n.", sizeof room) == 0);
+
+    same("first SMS", dialchisel_request(state, count, 1200, DIALCHISEL_SMS_SENDING), DIALCHISEL_DONE, 0);
+    same("silence, NFM off", dialchisel_silent(state, count, 1201, DIALCHISEL_SMS), DIALCHISEL_AS_3GPP, 0);
+    same("second SMS", dialchisel_request(state, count, 1202, DIALCHISEL_SMS_SENDING), DIALCHISEL_DONE, 0);
+    same("granted", dialchisel_granted(state, count, 1203, DIALCHISEL_SMS), DIALCHISEL_DONE, 0);
+    same("third SMS", dialchisel_request(state, count, 4799, DIALCHISEL_SMS_SENDING), DIALCHISEL_BLOCKED_S1, 0);
+    same("in the next hour", dialchisel_request(state, count, 4800, DIALCHISEL_SMS_SENDING), DIALCHISEL_DONE, 0);
+
+    memset(file, 1, sizeof file);
+    same("counters", dialchisel_counters(state, count, file, sizeof file), DIALCHISEL_DONE, DIALCHISEL_COUNTER_FILE);
+    is("counter file", memcmp(file, expected, sizeof file) == 0);
+}
+
+int main(void)
+{
+    example();
+    refusals();
+    bytes();
+    printf("use.c: %d answers and places as document 01 has them, %d surprises\n", looked - surprises, surprises);
+    return surprises != 0;
+}

@@ -1,0 +1,119 @@
+//! A Rust program on the safe wrapper: document 01's printed example, refusals, an AT line, the counter file, a state that is saved and
+//! brought back. It ends in failure at the first surprise.
+mod gate;
+
+use gate::{Advice, Block, Gate, Refusal, Request, Service, Settings, Verdict};
+use std::process::ExitCode;
+
+/// Notes each surprise and how many things were looked at.
+struct Seen {
+    looked: u32,
+    surprises: u32,
+}
+
+impl Seen {
+    fn same<T: PartialEq + std::fmt::Debug>(&mut self, what: &str, got: T, expected: T) {
+        self.looked += 1;
+        if got != expected {
+            self.surprises += 1;
+            eprintln!("use.rs: {what}: {got:?}, expected {expected:?}");
+        }
+    }
+}
+
+/// The printed example of document 01.
+fn example(seen: &mut Seen, gate: &mut Gate) {
+    let done = Verdict::Done(0);
+    seen.same("first request", gate.request(1000, Request::PdpActivation), done);
+    seen.same("rejected", gate.rejected(1010, Service::Pdp, 26, false), Verdict::Advice(Advice::BackedOff(89)));
+    seen.same("a second too early", gate.request(1098, Request::PdpActivation), Verdict::Blocked(Block::BackOff(1)));
+    seen.same("in time", gate.request(1099, Request::PdpActivation), done);
+    seen.same("granted", gate.granted(1100, Service::Pdp), done);
+    seen.same("asked while up", gate.request(1101, Request::PdpActivation), Verdict::Refused(Refusal::Standing));
+}
+
+/// Refusals change nothing; a damaged state is refused, a saved one goes on.
+fn refusals(seen: &mut Seen, gate: &mut Gate, settings: &Settings) {
+    let before = *gate.state();
+    let wrong = Settings { imsi: 1_000_000_000_000_000, ..*settings };
+    seen.same("IMSI too large", gate.reopen(&wrong), Verdict::Refused(Refusal::Range));
+    seen.same("no intervals", gate.reopen(&Settings { intervals: &[], ..*settings }), Verdict::Refused(Refusal::Range));
+    seen.same("time went back", gate.tick(1099), Verdict::Refused(Refusal::Time));
+    seen.same("nothing asked", gate.silent(1101, Service::Sms), Verdict::Refused(Refusal::Standing));
+    seen.same("lower case", gate.command(b"at+nfm=1\r", &mut [0; 16]), Verdict::Refused(Refusal::Line));
+    seen.same("small room", gate.command(b"AT+NFM=?\r", &mut [0; 15]), Verdict::Refused(Refusal::Buffer));
+    seen.same("refusals change nothing", *gate.state() == before, true);
+
+    let mut damaged = before;
+    damaged[1] = 2;
+    seen.same("damaged", Gate::restored(damaged).dropped(1101), Verdict::Refused(Refusal::Buffer));
+    seen.same("saved", Gate::restored(before).dropped(1101), Verdict::Done(0));
+}
+
+/// Every other request and service, by turns.
+fn others(seen: &mut Seen, gate: &mut Gate) {
+    let done = Verdict::Done(0);
+    seen.same("deactivation", gate.request(2000, Request::PdpDeactivation), done);
+    for (request, service) in
+        [(Request::GsmRegistration, Service::Gsm), (Request::GprsRegistration, Service::Gprs), (Request::Sms, Service::Sms)]
+    {
+        seen.same("asked", gate.request(2000, request), done);
+        seen.same("granted", gate.granted(2000, service), done);
+        seen.same("asked again", gate.request(2000, request), done);
+        seen.same("silence", gate.silent(2000, service), Verdict::Advice(Advice::BackedOff(89)));
+    }
+    seen.same("reset", gate.request(2000, Request::ModuleReset), done);
+    seen.same("third SMS of two", gate.request(5599, Request::Sms), Verdict::Blocked(Block::S1));
+    seen.same("in the next hour", gate.request(5600, Request::Sms), done);
+}
+
+/// An AT line and the counter file.
+fn bytes(seen: &mut Seen, gate: &mut Gate) {
+    let mut room = [b'.'; 16];
+    seen.same("AT line", gate.command(b"AT+NFM=1,1\r", &mut room), Verdict::Done(4));
+    seen.same("its answer", &room, b"OK\r\n............");
+    seen.same("AT read", gate.command(b"AT+NFM=?\r", &mut room), Verdict::Done(15));
+    seen.same("its answer", &room, b"+NFM: 1,1\r\nOK\r\n.");
+
+    let mut file = [255; 32];
+    seen.same("counters", gate.counters(&mut file), Verdict::Done(32));
+    let mut expected = [0; 32];
+    expected[2] = 7;
+    seen.same("counter file", file, expected);
+}
+
+fn main() -> ExitCode {
+    let mut seen = Seen { looked: 0, surprises: 0 };
+    let mut counters = [0; 32];
+    counters[2] = 7;
+    let settings = Settings {
+        time: 1000,
+        imsi: 1_010_123_456_789,
+        intervals: &[60, 120, 240],
+        nfm: true,
+        rpm: true,
+        a1: 0,
+        s1: 2,
+        parameters: &[0; 32],
+        leak_rates: &[0; 6],
+        counters: &counters,
+    };
+    match Gate::open(&settings) {
+        Ok(mut gate) => {
+            example(&mut seen, &mut gate);
+            refusals(&mut seen, &mut gate, &settings);
+            others(&mut seen, &mut gate);
+            bytes(&mut seen, &mut gate);
+        }
+        Err(verdict) => {
+            eprintln!("use.rs: not opened: {verdict:?}");
+            return ExitCode::FAILURE;
+        }
+    }
+    println!("use.rs: {} answers and rooms as document 01 has them, {} surprises", seen.looked - seen.surprises, seen.surprises);
+    if seen.surprises == 0 {
+        ExitCode::SUCCESS
+    } else {
+        ExitCode::FAILURE
+    }
+}
