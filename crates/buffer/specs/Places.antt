@@ -1,4 +1,5 @@
--- The places of document 01's table, by name: the only numbers of places there are. The code has them as constants of the same names.
+-- The places of document 01's table, by name: definitions and contracts use no other numbers of places. The code has them as constants of the
+-- same names.
 -- Assumes nothing.
 use Prim.Native.Nat.{ℕ}
 

@@ -1,0 +1,23 @@
+#!/usr/bin/env python3
+"""lessons.py COMMAND...: runs every trace of docs/LESSONS.md through the trace program and compares with the column "right"."""
+import os
+import re
+import subprocess
+import sys
+
+page = os.path.join(os.path.dirname(os.path.abspath(__file__)), "..", "docs", "LESSONS.md")
+with open(page, encoding="utf-8") as text:
+    blocks = re.findall(r"```\n( +right +[^\n]*\n.*?)```", text.read(), re.S)
+count = 0
+for block in blocks:
+    head, *rows = block.rstrip("\n").split("\n")
+    at = head.index("right")
+    lines = "".join(row[:at].rstrip() + "\n" for row in rows)
+    right = [" ".join(row[at:].split()[:2]) for row in rows]
+    said = subprocess.run(sys.argv[1:], input=lines, capture_output=True, text=True, check=True).stdout.splitlines()
+    if said != right:
+        sys.exit(f"docs/LESSONS.md: this trace is answered {said}, and the page says {right}:\n{lines}")
+    count += len(rows)
+if len(blocks) < 9:
+    sys.exit(f"docs/LESSONS.md: {len(blocks)} traces found, and there are at least nine")
+print(f"lessons: {len(blocks)} traces of {count} lines, answered as the page says")
