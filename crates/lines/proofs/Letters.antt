@@ -1,65 +1,26 @@
 -- The letters of timed lines. Assumes nothing.
 use Prim.Native.Nat.{ℕ}
-use mathlib.Core.Path.{_≡_}
+use mathlib.Core.Path.{_≡_, ap, _∙_}
 use mathlib.Core.List.{List}
 use mathlib.Core.Logic.{_≢_}
-use lib.ListN.{getD}
 use borrow.Author.Tests.{ne-eqb}
-use Rattle.rules.specs.Calls.{ask, granted, silent, rejected, dropped, tick}
+use Rattle.rules.specs.Calls.{Event, tick}
 use Rattle.lines.specs.Trace.{letterQ, letterG, letterS, letterJ, letterD, letterT, howMany, eventOf}
 
--- how many numbers, letter by letter
-module _ (x : ℕ) where
-  pub many-Q : x ≡ letterQ → howMany x ≡ 2
-  unfolding howMany
-  many-Q e = rw e
+-- how many numbers, and what happens, of a letter that is known
+module _ (x y : ℕ) (e : x ≡ y) where
+  pub many-of : (k : ℕ) → howMany y ≡ k → howMany x ≡ k
+  many-of k h = ap howMany e ∙ h
 
-  pub many-G : x ≡ letterG → howMany x ≡ 2
-  unfolding howMany
-  many-G e = rw e
+  pub event-of : (n : List ℕ) (v : Event) → eventOf y n ≡ v → eventOf x n ≡ v
+  event-of n v h = ap (λ (z : ℕ). eventOf z n) e ∙ h
 
-  pub many-S : x ≡ letterS → howMany x ≡ 2
+-- any other byte begins no timed line, and any other letter is the clock's
+module _ (x : ℕ) (a : x ≢ letterQ) (b : x ≢ letterG) (c : x ≢ letterS) (d : x ≢ letterJ) (e : x ≢ letterD) where
+  pub many-none : x ≢ letterT → howMany x ≡ 0
   unfolding howMany
-  many-S e = rw e
+  many-none f = rw (ne-eqb x letterQ a, ne-eqb x letterG b, ne-eqb x letterS c, ne-eqb x letterJ d, ne-eqb x letterD e, ne-eqb x letterT f)
 
-  pub many-J : x ≡ letterJ → howMany x ≡ 4
-  unfolding howMany
-  many-J e = rw e
-
-  pub many-D : x ≡ letterD → howMany x ≡ 1
-  unfolding howMany
-  many-D e = rw e
-
-  pub many-T : x ≡ letterT → howMany x ≡ 1
-  unfolding howMany
-  many-T e = rw e
-
-  pub many-none : x ≢ letterQ → x ≢ letterG → x ≢ letterS → x ≢ letterJ → x ≢ letterD → x ≢ letterT → howMany x ≡ 0
-  unfolding howMany
-  many-none a b c d e f = rw (ne-eqb x letterQ a, ne-eqb x letterG b, ne-eqb x letterS c, ne-eqb x letterJ d, ne-eqb x letterD e, ne-eqb x letterT f)
-
--- what happens, letter by letter
-module _ (x : ℕ) (n : List ℕ) where
-  pub event-Q : x ≡ letterQ → eventOf x n ≡ ask (getD n 1 0)
+  pub event-tick : (n : List ℕ) → eventOf x n ≡ tick
   unfolding eventOf
-  event-Q e = rw e
-
-  pub event-G : x ≡ letterG → eventOf x n ≡ granted (getD n 1 0)
-  unfolding eventOf
-  event-G e = rw e
-
-  pub event-S : x ≡ letterS → eventOf x n ≡ silent (getD n 1 0)
-  unfolding eventOf
-  event-S e = rw e
-
-  pub event-J : x ≡ letterJ → eventOf x n ≡ rejected (getD n 1 0) (getD n 2 0) (getD n 3 0)
-  unfolding eventOf
-  event-J e = rw e
-
-  pub event-D : x ≡ letterD → eventOf x n ≡ dropped
-  unfolding eventOf
-  event-D e = rw e
-
-  pub event-T : x ≢ letterQ → x ≢ letterG → x ≢ letterS → x ≢ letterJ → x ≢ letterD → eventOf x n ≡ tick
-  unfolding eventOf
-  event-T a b c d e = rw (ne-eqb x letterQ a, ne-eqb x letterG b, ne-eqb x letterS c, ne-eqb x letterJ d, ne-eqb x letterD e)
+  event-tick n = rw (ne-eqb x letterQ a, ne-eqb x letterG b, ne-eqb x letterS c, ne-eqb x letterJ d, ne-eqb x letterD e)
