@@ -36,8 +36,8 @@ pub fn headed(s: &[u32]) -> bool
     let number = imsi(s);
     (s[at::LETTERS] == 0x00575250)
         & (s[at::VERSION] == 1)
-        & ((s[at::OPENED] <= s[at::LAST]) & (s[at::LAST] <= 4000000000))
-        & (number <= 999999999999999)
+        & ((s[at::OPENED] <= s[at::LAST]) & (s[at::LAST] <= rules::LATEST))
+        & (number <= rules::HIGHEST_IMSI)
         & ((s[at::NFM] <= 1) & (s[at::START] <= 1) & (s[at::RPM] <= 1))
 }
 

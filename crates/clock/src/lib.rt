@@ -10,6 +10,7 @@ ghost use Prim.Native.Nat.{_*_, _/_, _-_, _<_, _≤_};
 ghost use lib.ListN.{length, getD};
 ghost use lib.Dec.{leb};
 ghost use Rattle.rules.specs.Calls.{timed, tick};
+ghost use Rattle.rules.specs.Tables.{highestTime};
 ghost use Rattle.rules.specs.Rules.{check, moved};
 ghost use Rattle.buffer.specs.Places.{SIZE, LAST};
 ghost use Rattle.buffer.specs.Layout.{spread, rows, factsOf, view};
@@ -95,9 +96,9 @@ pub fn advance(s: &mut [u32], t: u32)
 // The time is not below the last, nor too high.
 pub fn timely(s: &[u32], t: u32) -> bool
     requires { ⌜ length (now s) ≡ SIZE ⌝ }
-    ensures { λ r. ⌜ r ≡ (leb (getD (now (s .entry)) LAST 0) t && leb t 4000000000) ⌝ }
+    ensures { λ r. ⌜ r ≡ (leb (getD (now (s .entry)) LAST 0) t && leb t highestTime) ⌝ }
 {
-    (fields::last(s) <= t) & (t <= 4000000000)
+    (fields::last(s) <= t) & (t <= rules::LATEST)
 }
 
 // The number of the first check that fails: 2 range, 3 time, 4 standing; 0 if none.

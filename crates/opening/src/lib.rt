@@ -36,7 +36,12 @@ fn schedule(l: &[u32]) -> bool
 fn in_order(imsi: u64, l: &[u32], nfm: u32, rpm: u32, a1: u32, s1: u32) -> bool
     ensures { λ r. ⌜ r ≡ settings (order 0 imsi (now (l .entry)) nfm rpm a1 s1 [] [] []) ⌝ }
 {
-    (imsi <= 999999999999999) & schedule(l) & (nfm <= 1) & (rpm <= 1) & (a1 <= 255) & (s1 <= 255)
+    (imsi <= rules::HIGHEST_IMSI)
+        & schedule(l)
+        & (nfm <= 1)
+        & (rpm <= 1)
+        & (a1 <= 255)
+        & (s1 <= 255)
 }
 
 // Places 0-9: letters, version, times, IMSI, NFM, Start Timer, RPM, and how many intervals there are.
@@ -168,7 +173,7 @@ pub fn open(
             second: 0,
         };
     }
-    if 4000000000 < time {
+    if rules::LATEST < time {
         return Answer {
             number: 3,
             second: 0,
