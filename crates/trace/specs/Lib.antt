@@ -1,1 +1,3 @@
 pub mod Known
+pub mod Through
+pub mod Cut

@@ -6,8 +6,11 @@ use libc::STDIN_FILENO;
 use libc::STDOUT_FILENO;
 ghost use Prim.Native.Nat.{_+_, _≤_, _<_};
 ghost use mathlib.Core.Path.{_≡_};
-ghost use lib.ListN.{length};
+ghost use mathlib.Core.List.{_++_};
+ghost use lib.ListN.{length, take};
 ghost use Rattle.trace.specs.Known.{Known};
+ghost use Rattle.trace.specs.Through.{linePrints, lineLeaves};
+ghost use Rattle.trace.specs.Cut.{Cut};
 
 // What is kept from one read to the next: how many bytes of an unfinished line stand at the front of the input, whether they are of a line
 // that is too long and is passed over to its LF, whether the buffer is known to be good, and whether to read on.
@@ -18,13 +21,15 @@ struct Carry {
     more: bool,
 }
 
-// What is left once the lines that were read are answered: where the unfinished line starts, whether it is one that is too long, how many
-// bytes of output wait, and whether the buffer is known to be good.
+// How far the input is cut into lines: where the line that has begun starts, the place of the next byte, whether the line is too long and was
+// passed over, how many bytes of output wait, whether the buffer is known to be good, and whether all writes went well.
 struct Left {
     start: usize,
+    place: usize,
     skip: bool,
     fill: usize,
     known: bool,
+    sent: bool,
 }
 
 // After a line: how many bytes of output wait, and whether the buffer is known to be good.
@@ -33,87 +38,112 @@ struct Told {
     known: bool,
 }
 
-// Writes out what waits where less than 22 bytes of room are left, and answers what then waits.
-fn room(out: &[u8], fill: usize) -> usize
-    requires { ⌜ fill ≤ length (now out) ⌝ }
-    requires { ⌜ length (now out) ≡ 65536 ⌝ }
-    ensures { λ r. ⌜ r + 22 ≤ 65536 ⌝ }
-{
-    if fill <= 65514 {
-        return fill;
-    }
-    io::write_all(STDOUT_FILENO, &out[0..fill]);
-    0
-}
-
 // Answers a line, or one that is too long.
 fn one(state: &mut [u32], line: &[u8], out: &mut [u8], fill: usize, skip: bool, known: bool) -> Told
     requires { ⌜ Known known (now state) ⌝ }
-    requires { ⌜ fill ≤ length (now out) ⌝ }
-    requires { ⌜ length (now out) ≡ 65536 ⌝ }
-    ensures { λ r. ⌜ (r .«fill» ≤ 65536) × Known (r .known) (now (state .exit)) ⌝ }
+    requires { ⌜ fill + 22 ≤ length (now out) ⌝ }
+    ensures { λ r. ⌜ (r .«fill» ≤ fill + 22) × Known (r .known) (now (state .exit)) ⌝ }
+    ensures { λ r. ⌜ take (r .«fill») (now (out .exit)) ≡ take fill (now (out .entry)) ++ linePrints skip (now (line .entry)) (now (state .entry)) ⌝ }
+    ensures { λ _. ⌜ now (state .exit) ≡ lineLeaves skip (now (line .entry)) (now (state .entry)) ⌝ }
 {
-    let at = room(out, fill);
     if skip {
-        let n = lines::wrong(&mut out[at..]);
+        let n = lines::wrong(&mut out[fill..]);
         return Told {
-            fill: at + n,
+            fill: fill + n,
             known,
         };
     }
     if known {
-        let n = lines::answer_in(state, line, &mut out[at..]);
+        let n = lines::answer_in(state, line, &mut out[fill..]);
         return Told {
-            fill: at + n,
+            fill: fill + n,
             known: true,
         };
     }
-    let n = lines::answer(state, line, &mut out[at..]);
+    let n = lines::answer(state, line, &mut out[fill..]);
     let good = buffer::is_good(state);
     Told {
-        fill: at + n,
+        fill: fill + n,
         known: good,
     }
 }
 
-// The byte at a place of the input: LF ends the line that starts at `p.start`, and it is answered.
-fn next(state: &mut [u32], buf: &[u8], i: usize, out: &mut [u8], p: Left) -> Left
+// The next byte of the input: LF ends the line that has begun, and it is answered.
+fn next(state: &mut [u32], buf: &[u8], end: usize, out: &mut [u8], p: Left) -> Left
     requires { ⌜ Known (p .known) (now state) ⌝ }
-    requires { ⌜ length (now out) ≡ 65536 ⌝ }
-    requires { ⌜ (i < length (now buf)) × (p .«start» ≤ i) ⌝ }
-    requires { ⌜ p .«fill» ≤ 65536 ⌝ }
-    ensures { λ r. ⌜ (r .«start» ≤ i + 1) × ((r .«fill» ≤ 65536) × Known (r .known) (now (state .exit))) ⌝ }
+    requires { ⌜ p .«fill» + 22 ≤ length (now out) ⌝ }
+    requires { ⌜ (p .«start» ≤ p .place) × ((p .place < end) × (end ≤ length (now buf))) ⌝ }
+    ensures { λ r. ⌜ (r .«start» ≤ r .place) × (r .place ≡ p .place + 1) ⌝ }
+    ensures { λ r. ⌜ (r .«fill» ≤ p .«fill» + 22) × Known (r .known) (now (state .exit)) ⌝ }
+    ensures { λ r. ⌜ Cut (now (buf .entry)) end p (now (state .entry)) (now (out .entry)) r (now (state .exit)) (now (out .exit)) ⌝ }
 {
-    if buf[i] == b'\n' {
-        let start = p.start;
-        let told = one(state, &buf[start..i], out, p.fill, p.skip, p.known);
+    let start = p.start;
+    let place = p.place;
+    if buf[place] == b'\n' {
+        let told = one(state, &buf[start..place], out, p.fill, p.skip, p.known);
         return Left {
-            start: i + 1,
+            start: place + 1,
+            place: place + 1,
             skip: false,
             fill: told.fill,
             known: told.known,
+            sent: p.sent,
         };
     }
-    p
+    Left {
+        start,
+        place: place + 1,
+        skip: p.skip,
+        fill: p.fill,
+        known: p.known,
+        sent: p.sent,
+    }
 }
 
-// Cuts the first `end` bytes of the input into lines and answers each.
-fn cut(state: &mut [u32], buf: &[u8], end: usize, out: &mut [u8], skip: bool, known: bool) -> Left
-    requires { ⌜ Known known (now state) ⌝ }
+// Cuts the input into lines and answers each, up to `end` or until there is no room for another answer.
+fn cut(state: &mut [u32], buf: &[u8], end: usize, out: &mut [u8], p: Left) -> Left
+    requires { ⌜ Known (p .known) (now state) ⌝ }
     requires { ⌜ length (now out) ≡ 65536 ⌝ }
-    requires { ⌜ end ≤ length (now buf) ⌝ }
-    ensures { λ r. ⌜ (r .«start» ≤ end) × ((r .«fill» ≤ 65536) × Known (r .known) (now (state .exit))) ⌝ }
+    requires { ⌜ p .«fill» ≡ 0 ⌝ }
+    requires { ⌜ (p .«start» ≤ p .place) × ((p .place < end) × (end ≤ length (now buf))) ⌝ }
+    ensures { λ r. ⌜ (r .«start» ≤ r .place) × ((p .place < r .place) × (r .place ≤ end)) ⌝ }
+    ensures { λ r. ⌜ (r .«fill» ≤ 65536) × Known (r .known) (now (state .exit)) ⌝ }
+    ensures { λ r. ⌜ Cut (now (buf .entry)) end p (now (state .entry)) (now (out .entry)) r (now (state .exit)) (now (out .exit)) ⌝ }
+{
+    let mut left = p;
+    while left.place < end && left.fill <= 65514 {
+        left = next(state, buf, end, out, left);
+    }
+    left
+}
+
+// Cuts the whole input into lines, answers each, and writes the answers out.
+fn all(state: &mut [u32], buf: &[u8], end: usize, out: &mut [u8], c: Carry) -> Left
+    requires { ⌜ Known (c .known) (now state) ⌝ }
+    requires { ⌜ length (now out) ≡ 65536 ⌝ }
+    requires { ⌜ (c .held ≤ end) × (end ≤ length (now buf)) ⌝ }
+    ensures { λ r. ⌜ (r .«start» ≤ end) × Known (r .known) (now (state .exit)) ⌝ }
 {
     let mut left = Left {
         start: 0,
-        skip,
+        place: c.held,
+        skip: c.skip,
         fill: 0,
-        known,
+        known: c.known,
+        sent: true,
     };
-    let mut i = 0;
-    while i < end {
-        left = next(state, buf, i, out, left);
-        i += 1;
+    while left.place < end && left.sent {
+        let cut = cut(state, buf, end, out, left);
+        let fill = cut.fill;
+        let sent = io::write_all(STDOUT_FILENO, &out[0..fill]);
+        left = Left {
+            start: cut.start,
+            place: cut.place,
+            skip: cut.skip,
+            fill: 0,
+            known: cut.known,
+            sent,
+        };
     }
     left
 }
@@ -182,17 +212,15 @@ fn turn(state: &mut [u32], buf: &mut [u8], out: &mut [u8], c: Carry) -> Carry
         return last(state, buf, out, c);
     }
     let end = held + n;
-    let left = cut(state, buf, end, out, c.skip, c.known);
+    let left = all(state, buf, end, out, c);
     let start = left.start;
-    let fill = left.fill;
-    let more = io::write_all(STDOUT_FILENO, &out[0..fill]);
     let rest = end - start;
     if left.skip {
         return Carry {
             held: 0,
             skip: true,
             known: left.known,
-            more,
+            more: left.sent,
         };
     }
     if rest > 256 {
@@ -200,7 +228,7 @@ fn turn(state: &mut [u32], buf: &mut [u8], out: &mut [u8], c: Carry) -> Carry
             held: 0,
             skip: true,
             known: left.known,
-            more,
+            more: left.sent,
         };
     }
     shift(buf, start, end);
@@ -208,7 +236,7 @@ fn turn(state: &mut [u32], buf: &mut [u8], out: &mut [u8], c: Carry) -> Carry
         held: rest,
         skip: false,
         known: left.known,
-        more,
+        more: left.sent,
     }
 }
 

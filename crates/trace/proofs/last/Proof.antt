@@ -1,5 +1,5 @@
 -- `trace::last` meets its contract. Assumes nothing.
-use Rattle.text.proofs.Choice.{absurd-bool as not-so}
+use Rattle.text.proofs.Choice.{absurd-bool}
 use Prim.Native.Nat.{_-_}
 use native.Mathlib.Omega.{arith}
 use borrow.Author.Needs.{needs}
@@ -7,7 +7,7 @@ use Rattle.trace.proofs.last.Statement.{statement}
 use Rattle.trace.proofs.last.Tie as tie
 
 returns : tie.Need-returns
-returns c = (omega arith, λ e. not-so e)
+returns c = (omega arith, λ e. absurd-bool e)
 
 sub-one : tie.Need-sub-one
 sub-one c = search needs
@@ -40,7 +40,7 @@ same-length-2 : tie.Need-same-length-2
 same-length-2 c = search needs
 
 returns-2 : tie.Need-returns-2
-returns-2 c = (omega arith, λ e. not-so e)
+returns-2 c = (omega arith, λ e. absurd-bool e)
 
 pub last-spec : {M : Type 1} → statement M
 last-spec =

@@ -1,4 +1,6 @@
 -- `trace::one` meets its contract. Assumes nothing.
+use Rattle.trace.proofs.Cutting.{room-left, told-line, line-counted, line-left, line-written}
+use Rattle.lines.specs.Line.{printOf, printedWrong}
 use Rattle.lines.proofs.Staying.{stays-good}
 use Prim.Native.Nat.{_-_}
 use mathlib.Core.Path.{sym, _∙_}
@@ -6,9 +8,6 @@ use native.Mathlib.Omega.{arith}
 use borrow.Author.Needs.{needs}
 use Rattle.trace.proofs.one.Statement.{statement}
 use Rattle.trace.proofs.one.Tie as tie
-
-room-requires : tie.Need-room-requires
-room-requires c κs = search needs
 
 sub-wrong : tie.Need-sub-wrong
 sub-wrong c = search needs
@@ -22,14 +21,14 @@ part-wrong-end c = search needs
 wrong-requires : tie.Need-wrong-requires
 wrong-requires c κs = search needs
 
-add-t16 : tie.Need-add-t16
-add-t16 c = search needs
+add-t13 : tie.Need-add-t13
+add-t13 c = search needs
 
 same-length : tie.Need-same-length
 same-length c = search needs
 
 returns : tie.Need-returns
-returns c = search needs
+returns c = let a = c .before .before .before .before .before .before .before .before .args in let w = c .before .before .wrong .ensures in ((omega (arith, w .1), c .before .before .before .before .before .before .before .before .pre .0), (told-line (a .out .now) (c .before .before .wrong .last .0) (printedWrong) (a .«fill») (c .before .before .wrong .result) (a .skip) (a .line .now) (a .state .now) (omega arith) (w .0) (w .1) (rw (c .before .before .before .before .if1 .taken)), rw (c .before .before .before .before .if1 .taken)))
 
 sub-answer-in : tie.Need-sub-answer-in
 sub-answer-in c = search needs
@@ -41,10 +40,10 @@ part-answer-in-end : tie.Need-part-answer-in-end
 part-answer-in-end c = search needs
 
 answer-in-requires : tie.Need-answer-in-requires
-answer-in-requires c κs = (c .before .before .before .before .before .before .before .before .before .pre .0 (c .before .before .if2 .taken), search needs)
+answer-in-requires c κs = (c .before .before .before .before .before .before .before .pre .0 (c .before .before .if2 .taken), search needs)
 
-add-t22 : tie.Need-add-t22
-add-t22 c = search needs
+add-t19 : tie.Need-add-t19
+add-t19 c = search needs
 
 same-length-2 : tie.Need-same-length-2
 same-length-2 c = search needs
@@ -53,7 +52,7 @@ same-length-3 : tie.Need-same-length-3
 same-length-3 c = search needs
 
 returns-2 : tie.Need-returns-2
-returns-2 c = let a = c .before .before .before .before .before .before .before .before .before .before .before .before .before .before .args in (omega (arith, c .before .before .before .before .answer-in .ensures .1), λ _. stays-good (a .state .now) (a .line .now) _ _ _ _ (c .before .before .before .before .answer-in .ensures .0) (c .before .before .before .before .before .before .before .before .before .before .before .before .before .before .pre .0 (c .before .before .before .before .before .before .before .if2 .taken)))
+returns-2 c = let a = c .before .before .before .before .before .before .before .before .before .before .before .before .args in let w = c .before .before .before .before .answer-in .ensures in let h = room-left (a .out .now) (a .«fill») (omega arith) in ((omega (arith, w .1), λ _. stays-good (a .state .now) (a .line .now) _ _ _ _ (w .0) (c .before .before .before .before .before .before .before .before .before .before .before .before .pre .0 (c .before .before .before .before .before .before .before .if2 .taken))), (told-line (a .out .now) (c .before .before .before .before .answer-in .last .1 .1 .0) (printOf (a .state .now) (a .line .now)) (a .«fill») (c .before .before .before .before .answer-in .result) (a .skip) (a .line .now) (a .state .now) (omega arith) (line-written h (w .0)) (line-counted h (w .0)) (rw (c .before .before .before .before .before .before .before .before .if1 .left)), rw (c .before .before .before .before .before .before .before .before .if1 .left) (line-left h (w .0))))
 
 sub-answer : tie.Need-sub-answer
 sub-answer c = search needs
@@ -70,8 +69,8 @@ answer-requires c κs = search needs
 is-good-requires : tie.Need-is-good-requires
 is-good-requires c κs = search needs
 
-add-t28 : tie.Need-add-t28
-add-t28 c = search needs
+add-t25 : tie.Need-add-t25
+add-t25 c = search needs
 
 same-length-4 : tie.Need-same-length-4
 same-length-4 c = search needs
@@ -80,25 +79,24 @@ same-length-5 : tie.Need-same-length-5
 same-length-5 c = search needs
 
 returns-3 : tie.Need-returns-3
-returns-3 c = (omega (arith, c .before .before .before .before .before .before .answer .ensures .1), λ e. sym (c .is-good .ensures) ∙ e)
+returns-3 c = let a = c .before .before .before .before .before .before .before .before .before .before .before .before .before .before .args in let w = c .before .before .before .before .before .before .answer .ensures in let h = room-left (a .out .now) (a .«fill») (omega arith) in ((omega (arith, w .1), λ e. sym (c .is-good .ensures) ∙ e), (told-line (a .out .now) (c .before .before .before .before .before .before .answer .last .1 .1 .0) (printOf (a .state .now) (a .line .now)) (a .«fill») (c .before .before .before .before .before .before .answer .result) (a .skip) (a .line .now) (a .state .now) (omega arith) (line-written h (w .0)) (line-counted h (w .0)) (rw (c .before .before .before .before .before .before .before .before .before .before .if1 .left)), rw (c .before .before .before .before .before .before .before .before .before .before .if1 .left) (line-left h (w .0))))
 
 pub one-spec : {M : Type 1} → statement M
 one-spec =
     tie.close
     (tie.spec
-    room-requires
     sub-wrong
     part-wrong-start
     part-wrong-end
     wrong-requires
-    add-t16
+    add-t13
     same-length
     returns
     sub-answer-in
     part-answer-in-start
     part-answer-in-end
     answer-in-requires
-    add-t22
+    add-t19
     same-length-2
     same-length-3
     returns-2
@@ -107,7 +105,7 @@ one-spec =
     part-answer-end
     answer-requires
     is-good-requires
-    add-t28
+    add-t25
     same-length-4
     same-length-5
     returns-3)

@@ -34,20 +34,8 @@ returns c = search needs
 add-end : tie.Need-add-end
 add-end c = search needs
 
-cut-requires : tie.Need-cut-requires
-cut-requires c κs = (c .before .before .before .before .before .before .before .before .before .before .before .pre .0, (search needs, search needs))
-
-sub-write-all : tie.Need-sub-write-all
-sub-write-all c = search needs
-
-part-write-all-start : tie.Need-part-write-all-start
-part-write-all-start c = search needs
-
-part-write-all-end : tie.Need-part-write-all-end
-part-write-all-end c = search needs
-
-write-all-requires : tie.Need-write-all-requires
-write-all-requires c κs = search needs
+all-requires : tie.Need-all-requires
+all-requires c κs = (c .before .before .before .before .before .before .before .before .before .before .before .pre .0, search needs)
 
 sub-rest : tie.Need-sub-rest
 sub-rest c = search needs
@@ -105,11 +93,7 @@ turn-spec =
     same-length-3
     returns
     add-end
-    cut-requires
-    sub-write-all
-    part-write-all-start
-    part-write-all-end
-    write-all-requires
+    all-requires
     sub-rest
     same-length-4
     same-length-5

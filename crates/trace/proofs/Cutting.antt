@@ -1,0 +1,102 @@
+-- The input cut into lines, one byte after the other. Assumes nothing.
+use mathlib.Core.Path.{_≡_, refl, sym, ap, _∙_}
+use mathlib.Core.Bool.{Bool, false}
+use mathlib.Core.List.{List, [], _∷_, _++_, append-assoc}
+use mathlib.Core.Logic.{_≢_}
+use Prim.Native.Nat.{ℕ, zero, suc, _+_, _-_, _≤_, _<_}
+use native.Mathlib.Omega.{arith}
+use native.Mathlib.Numerals.{add-one}
+use lib.ListN.{length, getD, take, drop, length-take, length-drop}
+use lib.Seq.{take-nil, slice, slice-empty, slice-cons, take-suc, drop-append-le, length-take-le, take-append-add, take-append-seam}
+use borrow.Author.Tests.{eq-eqb, ne-eqb, le-leb}
+use Rattle.buffer.specs.Segments.{paste}
+use Rattle.lines.specs.Trace.{saidBy}
+use Rattle.lines.specs.Line.{leftBy, printOf, roomFor, LineSays}
+use Rattle.trace.specs.declared.Left.{Left}
+use Rattle.trace.specs.Through.{linePrints, lineLeaves, prints, leaves}
+use Rattle.trace.specs.Cut.{begun, Cut}
+
+-- ---- A part of the output, written at its front
+
+written : (out part new rest : List ℕ) (fill n : ℕ) → fill ≤ length out → n ≡ length new → take (fill + n) (take fill out ++ (paste part 0 new ++ rest)) ≡ take fill out ++ new
+unfolding paste
+written out part new rest fill n h e =
+    let a : fill ≡ length (take fill out) = sym (length-take-le fill out h) in
+    ap (λ (k : ℕ). take (k + n) (take fill out ++ (paste part 0 new ++ rest))) a
+    ∙ (take-append-add (take fill out) (paste part 0 new ++ rest) n
+    ∙ ap (λ (l : List ℕ). take fill out ++ l) (ap (λ (k : ℕ). take k (paste part 0 new ++ rest)) e ∙ (ap (take (length new)) (append-assoc new (drop (0 + length new) part) rest) ∙ take-append-seam new (drop (0 + length new) part ++ rest))))
+
+-- the rest of the output, as it is lent on
+abbrev pub roomOf : List ℕ → ℕ → List ℕ
+roomOf out fill = take (length out - fill) (drop fill out)
+
+pub room-left : (out : List ℕ) (fill : ℕ) → fill + 22 ≤ length out → 22 ≤ length (roomOf out fill)
+room-left out fill h = simp (length-take, length-drop) (omega arith)
+
+-- the same of what a line prints, once it is written there
+pub told-line : (out last new : List ℕ) (fill n : ℕ) (skip : Bool) (line b : List ℕ) → fill ≤ length out → last ≡ paste (roomOf out fill) 0 new → n ≡ length new → linePrints skip line b ≡ new
+    → take (fill + n) (take fill out ++ (last ++ drop (length out - fill) (drop fill out))) ≡ take fill out ++ linePrints skip line b
+told-line out last new fill n skip line b h e k q =
+    ap (λ (l : List ℕ). take (fill + n) (take fill out ++ (l ++ drop (length out - fill) (drop fill out)))) e
+    ∙ (written out (roomOf out fill) new (drop (length out - fill) (drop fill out)) fill n h k ∙ ap (λ (l : List ℕ). take fill out ++ l) (sym q))
+
+-- ---- What answering a line says, in a room that is large enough
+
+module _ {b line room : List ℕ} {r : ℕ} {x y : List ℕ} (h : roomFor ≤ length room) (s : LineSays b line room r x y) where
+  pub line-counted : r ≡ length (printOf b line)
+  line-counted = s .counted ∙ rw (le-leb roomFor (length room) h)
+
+  pub line-left : x ≡ leftBy b (saidBy line)
+  line-left = s .left ∙ rw (le-leb roomFor (length room) h)
+
+  pub line-written : y ≡ paste room 0 (printOf b line)
+  line-written = s .written ∙ rw (le-leb roomFor (length room) h)
+
+-- ---- A byte
+
+-- a part of the input, as it is lent on
+pub part-slice : (f t : ℕ) (l : List ℕ) → take (t - f) (drop f l) ≡ slice f t l
+part-slice zero t l = ap (λ (k : ℕ). take k l) (let e : t - 0 ≡ t = omega arith in e)
+part-slice (suc f) zero l = ap (λ (k : ℕ). take k (drop (suc f) l)) (let e : 0 - suc f ≡ 0 = omega arith in e)
+part-slice (suc f) (suc t) [] = take-nil (suc t - suc f)
+part-slice (suc f) (suc t) (x ∷ l) = ap (λ (k : ℕ). take k (drop f l)) (let e : suc t - suc f ≡ t - f = omega arith in e) ∙ part-slice f t l
+
+-- a part that is longer by a byte
+slice-more : (f t : ℕ) (l : List ℕ) → f ≤ t → t < length l → slice f (t + 1) l ≡ slice f t l ++ (getD l t 0 ∷ [])
+slice-more f t l h k = rw (add-one, take-suc l t 0 k) (drop-append-le f (take t l) (getD l t 0 ∷ []) (omega (arith, length-take-le t l (omega arith))))
+
+module _ (buf : List ℕ) (end : ℕ) (p : Left) (b out : List ℕ) (h : p .«start» ≤ p .place) (k : p .place < end) (l : end ≤ length buf) where
+  abbrev byte : ℕ
+  byte = getD buf (p .place) 0
+
+  abbrev later : List ℕ
+  later = slice (suc (p .place)) end buf
+
+  -- no LF: the line goes on
+  pub goes-on : byte ≢ 10 → (known sent : Bool) → Cut buf end p b out (record { «start» = p .«start»; place = p .place + 1; skip = p .skip; «fill» = p .«fill»; known = known; sent = sent }) b out
+  unfolding prints leaves
+  goes-on n known sent =
+      let e = slice-cons (p .place) end buf 0 k l in
+      let m = slice-more (p .«start») (p .place) buf h (omega arith) in
+      record { printed = rw (e, ne-eqb byte 10 n, m, add-one); left = rw (e, ne-eqb byte 10 n, m, add-one) }
+
+  -- LF: the line is answered
+  pub ends-line : byte ≡ 10 → (fill : ℕ) (known sent : Bool) (line x y : List ℕ) → line ≡ begun buf p
+      → take fill y ≡ take (p .«fill») out ++ linePrints (p .skip) line b → x ≡ lineLeaves (p .skip) line b
+      → Cut buf end p b out (record { «start» = p .place + 1; place = p .place + 1; skip = false; «fill» = fill; known = known; sent = sent }) x y
+  unfolding prints leaves
+  ends-line n fill known sent line x y g w d =
+      let e = slice-cons (p .place) end buf 0 k l in
+      let z = slice-empty (p .place + 1) buf in
+      record {
+        printed = rw (e, eq-eqb byte 10 n, z, w, d, g, add-one) (append-assoc (take (p .«fill») out) (linePrints (p .skip) (begun buf p) b) _);
+        left = rw (e, eq-eqb byte 10 n, z, d, g, add-one);
+      }
+
+-- nothing cut
+pub cut-none : {buf : List ℕ} {end : ℕ} {p : Left} {b out : List ℕ} → Cut buf end p b out p b out
+cut-none = record { printed = refl; left = refl }
+
+-- one cut after another
+pub cut-on : {buf : List ℕ} {end : ℕ} {p q r : Left} {b out x y x′ y′ : List ℕ} → Cut buf end p b out q x y → Cut buf end q x y r x′ y′ → Cut buf end p b out r x′ y′
+cut-on s t = record { printed = t .printed ∙ s .printed; left = t .left ∙ s .left }

@@ -1,0 +1,23 @@
+-- The input cut to its end: what waits is what the whole prints, and the buffer is what the whole leaves. Assumes nothing.
+use mathlib.Core.Path.{_≡_, sym, ap, _∙_}
+use mathlib.Core.List.{List, [], _++_, append-nil}
+use lib.ListN.{take}
+use Prim.Native.Nat.{ℕ}
+use lib.Seq.{slice, slice-empty}
+use Rattle.trace.specs.declared.Left.{Left}
+use Rattle.trace.specs.Through.{prints, leaves}
+use Rattle.trace.specs.Cut.{begun, waiting, restPrints, restLeaves, Cut}
+
+module _ {buf : List ℕ} {end : ℕ} {p q : Left} {b out x y : List ℕ} (s : Cut buf end p b out q x y) (h : q .place ≡ end) (z : p .«fill» ≡ 0) where
+  none-left : slice (q .place) end buf ≡ []
+  none-left = ap (λ (k : ℕ). slice k end buf) h ∙ slice-empty end buf
+
+  pub whole-printed : waiting y q ≡ restPrints buf end p b
+  unfolding prints
+  whole-printed =
+      sym (append-nil (waiting y q))
+      ∙ (ap (λ (l : List ℕ). waiting y q ++ prints (q .skip) (begun buf q) l x) (sym none-left) ∙ (s .printed ∙ ap (λ (k : ℕ). take k out ++ restPrints buf end p b) z))
+
+  pub whole-left : x ≡ restLeaves buf end p b
+  unfolding leaves
+  whole-left = ap (λ (l : List ℕ). leaves (q .skip) (begun buf q) l x) (sym none-left) ∙ s .left
