@@ -11,7 +11,7 @@ use Rattle.trace.specs.Through.{prints, leaves}
 abbrev pub begun : List ℕ → Left → List ℕ
 begun buf p = slice (p .«start») (p .place) buf
 
--- the bytes of the input that wait to be printed
+-- the bytes of the output that wait to be written
 abbrev pub waiting : List ℕ → Left → List ℕ
 waiting out p = take (p .«fill») out
 
