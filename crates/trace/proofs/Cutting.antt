@@ -6,8 +6,8 @@ use mathlib.Core.Logic.{_≢_}
 use Prim.Native.Nat.{ℕ, zero, suc, _+_, _-_, _≤_, _<_}
 use native.Mathlib.Omega.{arith}
 use native.Mathlib.Numerals.{add-one}
-use lib.ListN.{length, getD, take, drop, length-take, length-drop}
-use lib.Seq.{take-nil, slice, slice-empty, slice-cons, take-suc, drop-append-le, length-take-le, take-append-add, take-append-seam}
+use lib.ListN.{length, getD, take, drop, set, length-take, length-drop}
+use lib.Seq.{take-suc-set, drop-set-lt, drop-drop, getD-drop, take-nil, slice, slice-empty, slice-cons, take-suc, drop-append-le, length-take-le, take-append-add, take-append-seam}
 use borrow.Author.Tests.{eq-eqb, ne-eqb, le-leb}
 use Rattle.buffer.specs.Segments.{paste}
 use Rattle.lines.specs.Trace.{saidBy}
@@ -62,7 +62,7 @@ part-slice (suc f) (suc t) [] = take-nil (suc t - suc f)
 part-slice (suc f) (suc t) (x ∷ l) = ap (λ (k : ℕ). take k (drop f l)) (let e : suc t - suc f ≡ t - f = omega arith in e) ∙ part-slice f t l
 
 -- a part that is longer by a byte
-slice-more : (f t : ℕ) (l : List ℕ) → f ≤ t → t < length l → slice f (t + 1) l ≡ slice f t l ++ (getD l t 0 ∷ [])
+pub slice-more : (f t : ℕ) (l : List ℕ) → f ≤ t → t < length l → slice f (t + 1) l ≡ slice f t l ++ (getD l t 0 ∷ [])
 slice-more f t l h k = rw (add-one, take-suc l t 0 k) (drop-append-le f (take t l) (getD l t 0 ∷ []) (omega (arith, length-take-le t l (omega arith))))
 
 module _ (buf : List ℕ) (end : ℕ) (p : Left) (b out : List ℕ) (h : p .«start» ≤ p .place) (k : p .place < end) (l : end ≤ length buf) where
@@ -100,3 +100,23 @@ cut-none = record { printed = refl; left = refl }
 -- one cut after another
 pub cut-on : {buf : List ℕ} {end : ℕ} {p q r : Left} {b out x y x′ y′ : List ℕ} → Cut buf end p b out q x y → Cut buf end q x y r x′ y′ → Cut buf end p b out r x′ y′
 cut-on s t = record { printed = t .printed ∙ s .printed; left = t .left ∙ s .left }
+
+-- ---- Bytes moved to the front
+
+pub nothing-yet : (f : ℕ) (l : List ℕ) → take (f - f) l ≡ slice f f l
+nothing-yet f l = ap (λ (k : ℕ). take k l) (let e : f - f ≡ 0 = omega arith in e) ∙ sym (slice-empty f l)
+
+-- those from f to i stand in front, and those from i on as they were; then the next one is moved
+module _ (old new : List ℕ) (f i : ℕ) (h : f ≤ i) (k : i < length new) (n : length new ≡ length old) (e : take (i - f) new ≡ slice f i old) (s : drop i new ≡ drop i old) where
+  byte-stays : getD new i 0 ≡ getD old i 0
+  byte-stays = ap (λ (j : ℕ). getD new j 0) (let z : i ≡ i + 0 = omega arith in z) ∙ (sym (getD-drop i new 0 0) ∙ (ap (λ (l : List ℕ). getD l 0 0) s ∙ (getD-drop i old 0 0 ∙ ap (λ (j : ℕ). getD old j 0) (let z : i + 0 ≡ i = omega arith in z))))
+
+  pub moved-one : take (i + 1 - f) (set new (i - f) (getD new i 0)) ≡ slice f (i + 1) old
+  moved-one =
+      let m : i + 1 - f ≡ suc (i - f) = omega arith in
+      ap (λ (j : ℕ). take j (set new (i - f) (getD new i 0))) m
+      ∙ (take-suc-set new (i - f) (getD new i 0) (omega arith)
+      ∙ (ap (λ (l : List ℕ). l ++ (getD new i 0 ∷ [])) e ∙ (ap (λ (x : ℕ). slice f i old ++ (x ∷ [])) byte-stays ∙ sym (slice-more f i old h (omega arith)))))
+
+  pub moved-rest : drop (i + 1) (set new (i - f) (getD new i 0)) ≡ drop (i + 1) old
+  moved-rest = drop-set-lt (i + 1) new (i - f) (getD new i 0) (omega arith) ∙ (sym (drop-drop 1 i new) ∙ (ap (drop 1) s ∙ drop-drop 1 i old))

@@ -4,10 +4,11 @@
 // the answers. The memory used does not grow with the input.
 use libc::STDIN_FILENO;
 use libc::STDOUT_FILENO;
-ghost use Prim.Native.Nat.{_+_, _≤_, _<_};
+ghost use Prim.Native.Nat.{_+_, _-_, _≤_, _<_};
 ghost use mathlib.Core.Path.{_≡_};
 ghost use mathlib.Core.List.{_++_};
 ghost use lib.ListN.{length, take};
+ghost use lib.Seq.{slice};
 ghost use Rattle.trace.specs.Known.{Known};
 ghost use Rattle.trace.specs.Through.{linePrints, lineLeaves};
 ghost use Rattle.trace.specs.Cut.{Cut};
@@ -152,6 +153,7 @@ fn all(state: &mut [u32], buf: &[u8], end: usize, out: &mut [u8], c: Carry) -> L
 fn shift(buf: &mut [u8], start: usize, end: usize)
     requires { ⌜ start ≤ end ⌝ }
     requires { ⌜ end ≤ length (now buf) ⌝ }
+    ensures { λ _. ⌜ take (end - start) (now (buf .exit)) ≡ slice start end (now (buf .entry)) ⌝ }
 {
     let mut i = start;
     while i < end {

@@ -1,4 +1,9 @@
--- `trace::shift` meets its contract. Assumes nothing.
+-- `trace::shift` meets its contract: the bytes are moved one after the other. Assumes nothing.
+use Rattle.trace.proofs.Cutting.{nothing-yet, moved-one, moved-rest}
+use lib.Seq.{slice}
+use lib.ListN.{take, drop, length-set}
+use native.Mathlib.Omega.{arith}
+use mathlib.Core.Path.{refl}
 use Prim.Native.Nat.{_≤_, _-_}
 use mathlib.Core.Path.{_≡_}
 use lib.ListN.{length}
@@ -7,13 +12,13 @@ use Rattle.trace.proofs.shift.Statement.{statement}
 use Rattle.trace.proofs.shift.Tie as tie
 
 abbrev Inv-loop : tie.InvT-loop
-Inv-loop buf₀ start end i₀ buf i = (start ≤ i) × ((i ≤ end) × (length buf ≡ length buf₀))
+Inv-loop buf₀ start end i₀ buf i = (start ≤ i) × ((i ≤ end) × ((length buf ≡ length buf₀) × ((take (i - start) buf ≡ slice start i buf₀) × (drop i buf ≡ drop i buf₀))))
 
 abbrev μ-loop : tie.MeasureT-loop
 μ-loop buf₀ start end i₀ buf i = end - i
 
 loop-holds : tie.Need-loop-holds Inv-loop μ-loop
-loop-holds c = search needs
+loop-holds c = (omega arith, (omega arith, (refl, (nothing-yet (c .args .start) (c .args .buf .now), refl))))
 
 slice-read-buf : tie.Need-slice-read-buf Inv-loop μ-loop
 slice-read-buf c = search needs
@@ -31,13 +36,13 @@ loop-less : tie.Need-loop-less Inv-loop μ-loop
 loop-less c = search needs
 
 loop-again : tie.Need-loop-again Inv-loop μ-loop
-loop-again c = search needs
+loop-again c = let l = c .before .before .loop in let a = c .before .before .before .args in (omega arith, (omega arith, (simp length-set (omega arith), (moved-one (a .buf .now) (l .buf) (a .start) (l .i) (omega arith) (omega arith) (l .inv .1 .1 .0) (l .inv .1 .1 .1 .0) (l .inv .1 .1 .1 .1), moved-rest (a .buf .now) (l .buf) (a .start) (l .i) (omega arith) (omega arith) (l .inv .1 .1 .0) (l .inv .1 .1 .1 .0) (l .inv .1 .1 .1 .1)))))
 
 same-length : tie.Need-same-length Inv-loop μ-loop
 same-length c = search needs
 
 returns : tie.Need-returns Inv-loop μ-loop
-returns c = search needs
+returns c = let l = c .before .loop in let a = c .before .before .args in let e : l .i ≡ a .end = omega arith in rw (← e) (l .inv .1 .1 .1 .0)
 
 pub shift-spec : {M : Type 1} → statement M
 shift-spec =
