@@ -14,7 +14,7 @@ use borrow.Author.Tests.{le-leb, lt-leb, lt-ltb, le-ltb}
 use Rattle.rules.specs.Tables.{within, inHour}
 use Rattle.rules.specs.Rules.{Facts, newest}
 use Rattle.buffer.specs.Segments.{pad, part}
-use Rattle.buffer.specs.Layout.{spread}
+use Rattle.buffer.specs.Layout.{spread, row}
 use Rattle.buffer.specs.Places.{LENGTHS, LISTS}
 use Rattle.buffer.specs.Good.{Shape}
 use Rattle.buffer.specs.Lists.{Holds, Listed, appended, permitted}
@@ -137,3 +137,7 @@ module _ (f : Facts) (rs : List (List ℕ)) (s : Shaped f rs) (k : ℕ) (five : 
       let l : List ℕ = getD rs k [] in
       let whole : part (spread f rs) (LISTS + 255 * k) 255 ≡ pad 255 l = places-at f rs s k 255 five (lit≤ tt) ∙ take-all 255 (pad 255 l) (le-of-eq (length-pad 255 l (s .short k))) in
       rw (count-at f rs s k five, whole, take-pad 255 l, ← added-length) (set-row f rs s k (newest (getD rs k [] ++ (t ∷ []))) five (omega (arith, added-length)))
+
+-- as many times stand on a list as its length says
+pub listed-length : (b : List ℕ) (k : ℕ) → Listed b k → length (row b k) ≡ getD b (LENGTHS + k) 0
+listed-length b k h = let u = h .holds .used in let l = h .long in let f = h .five in length-part b (LISTS + 255 * k) (getD b (LENGTHS + k) 0) (omega arith)

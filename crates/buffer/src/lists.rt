@@ -2,9 +2,9 @@
 // buffer, and its length in another place. One routine adds to a list, and one counts in it.
 use crate::places as at;
 ghost use mathlib.Core.Path.{_≡_};
-ghost use Prim.Native.Nat.{_+_, _≤_, min};
+ghost use Prim.Native.Nat.{_+_, _≤_, _<_, min};
 ghost use lib.ListN.{length, take};
-ghost use Rattle.rules.specs.Tables.{inHour};
+ghost use Rattle.rules.specs.Tables.{inHour, fromNewest};
 ghost use Rattle.buffer.specs.Layout.{row};
 ghost use Rattle.buffer.specs.Lists.{Holds, Listed, appended, permitted};
 
@@ -68,4 +68,15 @@ pub fn hour_of(s: &[u32], k: usize, t: u32) -> u32
     let a = at::LISTS + at::ROOM * k;
     let e = a + at::ROOM;
     in_hour(&s[a..e], s[at::LENGTHS + k], t)
+}
+
+// The time m places from the newest of list k, the newest counted as one.
+pub fn from_newest(s: &[u32], k: usize, m: u32) -> u32
+    requires { ⌜ Listed (now s) k ⌝ }
+    requires { ⌜ (0 < m) × (m ≤ length (row (now s) k)) ⌝ }
+    ensures { λ r. ⌜ r ≡ fromNewest m (row (now (s .entry)) k) ⌝ }
+{
+    let a = at::LISTS + at::ROOM * k;
+    let i = (s[at::LENGTHS + k] - m) as usize;
+    s[a + i]
 }

@@ -11,13 +11,22 @@ ghost use lib.ListN.{length};
 ghost use lib.Dec.{leb, ltb};
 ghost use Rattle.rules.specs.Calls.{timed, ask};
 ghost use Rattle.rules.specs.Tables.{inHour, oneMore};
-ghost use Rattle.rules.specs.Rules.{stands, limits, firstBlock, ruling};
+ghost use Rattle.rules.specs.Rules.{stands, limits, firstBlock, refusal, ruling};
 ghost use Rattle.buffer.specs.Places.{SIZE};
-ghost use Rattle.buffer.specs.Layout.{view, factsOf, row};
+ghost use Rattle.buffer.specs.Layout.{view, factsOf};
+ghost use Rattle.buffer.specs.Layout.{row as listOf};
 ghost use Rattle.buffer.specs.Good.{Shape, good};
 ghost use Rattle.buffer.specs.Lists.{Listed};
 ghost use Rattle.clock.specs.Call.{Says};
-ghost use Rattle.request.specs.Request.{waiting, bumped, tallied, stood, listed};
+ghost use Rattle.request.specs.Request.{limitAt, RowOf, waiting, bumped, tallied, stood, listed};
+
+// A row of the table of limits: its number, whether it applies to the request, the most permits in an hour, and the list on which they stand.
+pub struct Row {
+    pub number: u32,
+    pub applies: bool,
+    pub most: u32,
+    pub list: usize,
+}
 
 // ---- Deciding
 
@@ -35,8 +44,16 @@ fn fits(s: &[u32], q: u32) -> bool
     true
 }
 
+// The first of the checks 2, 3 and 4 that request q at t fails; 0 if none.
+pub fn refusal(s: &[u32], t: u32, q: u32) -> u32
+    requires { ⌜ length (now s) ≡ SIZE ⌝ }
+    ensures { λ r. ⌜ r ≡ refusal (factsOf (now (s .entry))) (timed t (ask q)) ⌝ }
+{
+    clock::refuse(q <= 5, clock::timely(s, t), fits(s, q))
+}
+
 // Seconds left of the back-off that holds request q; 0 where none runs.
-fn left(s: &[u32], t: u32, q: u32) -> u32
+pub fn left(s: &[u32], t: u32, q: u32) -> u32
     requires { ⌜ length (now s) ≡ SIZE ⌝ }
     ensures { λ r. ⌜ r ≡ waiting (factsOf (now (s .entry))) t q ⌝ }
 {
@@ -46,18 +63,72 @@ fn left(s: &[u32], t: u32, q: u32) -> u32
     clock::less(fields::end(s, q as usize), t)
 }
 
-// A limit that applies, is not 0, and has as many permits of list k in the hour of t.
-fn blocks(s: &[u32], applies: bool, most: u32, k: usize, t: u32) -> bool
-    requires { ⌜ Listed (now s) k ⌝ }
-    ensures { λ r. ⌜ r ≡ (applies && (ltb 0 most && leb most (inHour t (row (now (s .entry)) k)))) ⌝ }
+// Row i, 0 to 6, of the limits on request q: N1, F1 to F4, A1, S1.
+pub fn limit(s: &[u32], q: u32, i: usize) -> Row
+    requires { ⌜ length (now s) ≡ SIZE ⌝ }
+    requires { ⌜ i < 7 ⌝ }
+    ensures { λ r. ⌜ RowOf (limitAt (factsOf (now (s .entry))) q i) r ⌝ }
 {
-    if !applies {
+    let on = s[at::RPM] == 1;
+    let mood = s[at::MOOD];
+    match i {
+        0 => Row {
+            number: 11,
+            applies: on & (q == 5),
+            most: s[at::PARAMETERS],
+            list: 4,
+        },
+        1 => Row {
+            number: 13,
+            applies: on & ((q == 2) & (mood == 1)),
+            most: s[at::PARAMETERS + 2],
+            list: 1,
+        },
+        2 => Row {
+            number: 14,
+            applies: on & ((q == 2) & (mood == 2)),
+            most: s[at::PARAMETERS + 3],
+            list: 1,
+        },
+        3 => Row {
+            number: 15,
+            applies: on & ((q == 2) & (mood == 3)),
+            most: s[at::PARAMETERS + 4],
+            list: 1,
+        },
+        4 => Row {
+            number: 16,
+            applies: on & ((q == 2) | (q == 4)),
+            most: s[at::PARAMETERS + 5],
+            list: 2,
+        },
+        5 => Row {
+            number: 17,
+            applies: (q == 0) | (q == 1),
+            most: s[at::HOUSE],
+            list: 0,
+        },
+        _ => Row {
+            number: 18,
+            applies: q == 3,
+            most: s[at::HOUSE + 1],
+            list: 3,
+        },
+    }
+}
+
+// The limit of a row blocks at t: it applies, it is not 0, and as many permits of its list are in the hour.
+pub fn blocks(s: &[u32], row: Row, t: u32) -> bool
+    requires { ⌜ Listed (now s) (row .list) ⌝ }
+    ensures { λ r. ⌜ r ≡ (row .applies && (ltb 0 (row .most) && leb (row .most) (inHour t (listOf (now (s .entry)) (row .list))))) ⌝ }
+{
+    if !row.applies {
         return false;
     }
-    if most == 0 {
+    if row.most == 0 {
         return false;
     }
-    most <= lists::hour_of(s, k, t)
+    row.most <= lists::hour_of(s, row.list, t)
 }
 
 // The number of the first limit that blocks request q at t; 0 if none.
@@ -66,46 +137,13 @@ fn first_block(s: &[u32], t: u32, q: u32) -> u32
     requires { ⌜ good (now s) ≡ true ⌝ }
     ensures { λ r. ⌜ r ≡ firstBlock (view (now (s .entry))) t (limits (factsOf (now (s .entry))) q) ⌝ }
 {
-    let on = s[at::RPM] == 1;
-    let mood = s[at::MOOD];
-    if blocks(s, on & (q == 5), s[at::PARAMETERS], 4, t) {
-        return 11;
-    }
-    if blocks(
-        s,
-        on & ((q == 2) & (mood == 1)),
-        s[at::PARAMETERS + 2],
-        1,
-        t,
-    ) {
-        return 13;
-    }
-    if blocks(
-        s,
-        on & ((q == 2) & (mood == 2)),
-        s[at::PARAMETERS + 3],
-        1,
-        t,
-    ) {
-        return 14;
-    }
-    if blocks(
-        s,
-        on & ((q == 2) & (mood == 3)),
-        s[at::PARAMETERS + 4],
-        1,
-        t,
-    ) {
-        return 15;
-    }
-    if blocks(s, on & ((q == 2) | (q == 4)), s[at::PARAMETERS + 5], 2, t) {
-        return 16;
-    }
-    if blocks(s, (q == 0) | (q == 1), s[at::HOUSE], 0, t) {
-        return 17;
-    }
-    if blocks(s, q == 3, s[at::HOUSE + 1], 3, t) {
-        return 18;
+    let mut i: usize = 0;
+    while i < 7 {
+        let row = limit(s, q, i);
+        if blocks(s, row, t) {
+            return row.number;
+        }
+        i += 1;
     }
     0
 }
@@ -116,7 +154,7 @@ pub fn decide(s: &[u32], t: u32, q: u32) -> Answer
     requires { ⌜ good (now s) ≡ true ⌝ }
     ensures { λ r. ⌜ r ≡ ruling (view (now (s .entry))) (timed t (ask q)) ⌝ }
 {
-    let n = clock::refuse(q <= 5, clock::timely(s, t), fits(s, q));
+    let n = refusal(s, t, q);
     if n != 0 {
         return Answer {
             number: n,

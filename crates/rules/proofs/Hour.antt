@@ -8,10 +8,11 @@ use lib.ListN.{length, getD}
 use lib.Dec.{ltb, leb}
 use borrow.Author.Tests.{ltb-true, leb-true, leb-false, lt-ltb, le-leb, lt-leb}
 use native.Mathlib.Omega.{arith}
-use Rattle.rules.specs.Tables.{within, inHour}
+use Rattle.rules.specs.Tables.{within, inHour, fromNewest}
 use Rattle.rules.proofs.Newest.{Rising, rising-le, within-true, within-late, enough, all-in}
 
-few : (t : ℕ) (l : List ℕ) → inHour t l ≤ length l
+-- no more are in the hour than there are
+pub few : (t : ℕ) (l : List ℕ) → inHour t l ≤ length l
 few t [] = omega arith
 few t (p ∷ l) = go (within t p) (few t l)
   where
@@ -20,7 +21,7 @@ few t (p ∷ l) = go (within t p) (few t l)
     go false h = omega arith
 
 -- L or more of a list that rises to t are in its hour just when there are L and the time L places from the newest is less than 3,600 s ago
-pub rolling-hour : (L t a : ℕ) (l : List ℕ) → 0 < L → Rising a l t → leb L (inHour t l) ≡ (leb L (length l) && ltb t (getD l (length l - L) 0 + 3600))
+pub rolling-hour : (L t a : ℕ) (l : List ℕ) → 0 < L → Rising a l t → leb L (inHour t l) ≡ (leb L (length l) && ltb t (fromNewest L l + 3600))
 rolling-hour L t a [] g h = rw (lt-leb L 0 g)
 rolling-hour L t a (p ∷ l) g h = go (leb L (length l)) refl (rolling-hour L t p l g (h .1))
   where

@@ -19,6 +19,10 @@ abbrev pub inHour : ℕ → List ℕ → ℕ
 inHour t [] = 0
 inHour t (p ∷ l) = cond (within t p) (suc (inHour t l)) (inHour t l)
 
+-- the time m places from the newest of a list that has the oldest first, the newest counted as one
+abbrev pub fromNewest : ℕ → List ℕ → ℕ
+fromNewest m l = getD l (length l - m) 0
+
 pub data Kind : Type 0 where
   attach activation pdp sms reset : Kind
 

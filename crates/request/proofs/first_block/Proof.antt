@@ -1,207 +1,73 @@
--- `request::first_block` meets its contract: each test that fails leads to the next limit. Assumes nothing.
-use mathlib.Core.Path.{sym, _∙_}
-use lib.Dec.{lit<}
-use Rattle.rules.specs.Rules.{limits, blocks}
-use Rattle.buffer.specs.Layout.{factsOf}
-use Rattle.buffer.proofs.Goodness.{good-shape}
-use Rattle.buffer.proofs.Listing.{row-listed}
+-- `request::first_block` meets its contract: row after row, the first that blocks from there on is the first of all. Assumes nothing.
+use mathlib.Core.Path.{_≡_, refl, sym, ap, _∙_}
+use mathlib.Core.Bool.{true, false, cond}
+use Prim.Native.Nat.{ℕ, _+_, _-_, _≤_}
+use lib.ListN.{drop}
+use native.Mathlib.Omega.{arith}
+use Rattle.rules.specs.Rules.{limits, blocks, firstBlock}
+use Rattle.buffer.specs.Layout.{factsOf, view}
+use Rattle.request.proofs.Deciding.{row-stands, row-blocks, first-at}
 use borrow.Author.Needs.{needs}
 use Rattle.request.proofs.first_block.Statement.{statement}
 use Rattle.request.proofs.first_block.Tie as tie
 
-shared-slice-read-on : tie.Need-shared-slice-read-on
-shared-slice-read-on c = search needs
+abbrev Inv-loop : tie.InvT-loop
+Inv-loop s t q i₀ i = (i ≤ 7) × (firstBlock (view s) t (limits (factsOf s) q) ≡ firstBlock (view s) t (drop i (limits (factsOf s) q)))
 
-shared-slice-read-mood : tie.Need-shared-slice-read-mood
-shared-slice-read-mood c = search needs
+abbrev μ-loop : tie.MeasureT-loop
+μ-loop s t q i₀ i = 7 - i
 
-shared-slice-read-blocks : tie.Need-shared-slice-read-blocks
-shared-slice-read-blocks c = search needs
+loop-holds : tie.Need-loop-holds Inv-loop μ-loop
+loop-holds c = (omega arith, refl)
 
-blocks-requires : tie.Need-blocks-requires
-blocks-requires c κs = let x = c .before .before .before .before in row-listed (x .args .s .now) (good-shape (x .args .s .now) (x .pre .1)) 4 (lit< tt)
+limit-requires : tie.Need-limit-requires Inv-loop μ-loop
+limit-requires c κs = search needs
 
-returns : tie.Need-returns
-unfolding limits blocks factsOf
-returns c = rw (sym (c .before .blocks2 .ensures) ∙ c .if1 .taken)
+blocks-requires : tie.Need-blocks-requires Inv-loop μ-loop
+blocks-requires c κs =
+    let x = c .before .before .before .before in
+    row-stands (x .args .s .now) (x .args .t) (x .args .q) (c .before .before .loop .i) (c .limit .result) (c .limit .ensures) (x .pre .1)
 
-add-blocks : tie.Need-add-blocks
-add-blocks c = search needs
+returns : tie.Need-returns Inv-loop μ-loop
+returns c =
+    let x = c .before .before .before .before .before .before .args in
+    let l = c .before .before .before .before .loop in
+    let r = c .before .before .limit in
+    let e = sym (row-blocks (x .s .now) (x .t) (x .q) (l .i) (r .result) (r .ensures)) ∙ sym (c .before .blocks2 .ensures) ∙ c .if1 .taken in
+    sym (l .inv .1 ∙ first-at (view (x .s .now)) (x .t) (x .q) (l .i) (c .before .before .before .loop-test .taken) ∙ rw (e, r .ensures .number))
 
-mul-blocks : tie.Need-mul-blocks
-mul-blocks c = search needs
+add-i : tie.Need-add-i Inv-loop μ-loop
+add-i c = search needs
 
-shared-slice-read-blocks-2 : tie.Need-shared-slice-read-blocks-2
-shared-slice-read-blocks-2 c = search needs
+loop-less : tie.Need-loop-less Inv-loop μ-loop
+loop-less c = search needs
 
-blocks-requires-2 : tie.Need-blocks-requires-2
-blocks-requires-2 c κs = let x = c .before .before .before .before .before .before .before in row-listed (x .args .s .now) (good-shape (x .args .s .now) (x .pre .1)) 1 (lit< tt)
+loop-again : tie.Need-loop-again Inv-loop μ-loop
+loop-again c =
+    let x = c .before .before .before .before .before .before .args in
+    let l = c .before .before .before .before .loop in
+    let r = c .before .before .limit in
+    let e = sym (row-blocks (x .s .now) (x .t) (x .q) (l .i) (r .result) (r .ensures)) ∙ sym (c .before .blocks2 .ensures) ∙ c .if1 .left in
+    (omega arith, l .inv .1 ∙ first-at (view (x .s .now)) (x .t) (x .q) (l .i) (c .before .before .before .loop-test .taken) ∙ rw e)
 
-returns-2 : tie.Need-returns-2
-unfolding limits blocks factsOf
+returns-2 : tie.Need-returns-2 Inv-loop μ-loop
+unfolding limits
 returns-2 c =
-    rw (
-      sym (c .before .before .before .before .blocks2 .ensures) ∙ c .before .before .before .if1 .left,
-      sym (c .before .blocks3 .ensures) ∙ c .if2 .taken,
-    )
-
-add-blocks-2 : tie.Need-add-blocks-2
-add-blocks-2 c = search needs
-
-mul-blocks-2 : tie.Need-mul-blocks-2
-mul-blocks-2 c = search needs
-
-shared-slice-read-blocks-3 : tie.Need-shared-slice-read-blocks-3
-shared-slice-read-blocks-3 c = search needs
-
-blocks-requires-3 : tie.Need-blocks-requires-3
-blocks-requires-3 c κs = let x = c .before .before .before .before .before .before .before .before .before .before in row-listed (x .args .s .now) (good-shape (x .args .s .now) (x .pre .1)) 1 (lit< tt)
-
-returns-3 : tie.Need-returns-3
-unfolding limits blocks factsOf
-returns-3 c =
-    rw (
-      sym (c .before .before .before .before .before .before .before .blocks2 .ensures) ∙ c .before .before .before .before .before .before .if1 .left,
-      sym (c .before .before .before .before .blocks3 .ensures) ∙ c .before .before .before .if2 .left,
-      sym (c .before .blocks4 .ensures) ∙ c .if3 .taken,
-    )
-
-add-blocks-3 : tie.Need-add-blocks-3
-add-blocks-3 c = search needs
-
-mul-blocks-3 : tie.Need-mul-blocks-3
-mul-blocks-3 c = search needs
-
-shared-slice-read-blocks-4 : tie.Need-shared-slice-read-blocks-4
-shared-slice-read-blocks-4 c = search needs
-
-blocks-requires-4 : tie.Need-blocks-requires-4
-blocks-requires-4 c κs = let x = c .before .before .before .before .before .before .before .before .before .before .before .before .before in row-listed (x .args .s .now) (good-shape (x .args .s .now) (x .pre .1)) 1 (lit< tt)
-
-returns-4 : tie.Need-returns-4
-unfolding limits blocks factsOf
-returns-4 c =
-    rw (
-      sym (c .before .before .before .before .before .before .before .before .before .before .blocks2 .ensures) ∙ c .before .before .before .before .before .before .before .before .before .if1 .left,
-      sym (c .before .before .before .before .before .before .before .blocks3 .ensures) ∙ c .before .before .before .before .before .before .if2 .left,
-      sym (c .before .before .before .before .blocks4 .ensures) ∙ c .before .before .before .if3 .left,
-      sym (c .before .blocks5 .ensures) ∙ c .if4 .taken,
-    )
-
-add-blocks-4 : tie.Need-add-blocks-4
-add-blocks-4 c = search needs
-
-mul-blocks-4 : tie.Need-mul-blocks-4
-mul-blocks-4 c = search needs
-
-shared-slice-read-blocks-5 : tie.Need-shared-slice-read-blocks-5
-shared-slice-read-blocks-5 c = search needs
-
-blocks-requires-5 : tie.Need-blocks-requires-5
-blocks-requires-5 c κs = let x = c .before .before .before .before .before .before .before .before .before .before .before .before .before .before .before .before in row-listed (x .args .s .now) (good-shape (x .args .s .now) (x .pre .1)) 2 (lit< tt)
-
-returns-5 : tie.Need-returns-5
-unfolding limits blocks factsOf
-returns-5 c =
-    rw (
-      sym (c .before .before .before .before .before .before .before .before .before .before .before .before .before .blocks2 .ensures) ∙ c .before .before .before .before .before .before .before .before .before .before .before .before .if1 .left,
-      sym (c .before .before .before .before .before .before .before .before .before .before .blocks3 .ensures) ∙ c .before .before .before .before .before .before .before .before .before .if2 .left,
-      sym (c .before .before .before .before .before .before .before .blocks4 .ensures) ∙ c .before .before .before .before .before .before .if3 .left,
-      sym (c .before .before .before .before .blocks5 .ensures) ∙ c .before .before .before .if4 .left,
-      sym (c .before .blocks6 .ensures) ∙ c .if5 .taken,
-    )
-
-shared-slice-read-blocks-6 : tie.Need-shared-slice-read-blocks-6
-shared-slice-read-blocks-6 c = search needs
-
-blocks-requires-6 : tie.Need-blocks-requires-6
-blocks-requires-6 c κs = let x = c .before .before .before .before .before .before .before .before .before .before .before .before .before .before .before .before .before .before .before in row-listed (x .args .s .now) (good-shape (x .args .s .now) (x .pre .1)) 0 (lit< tt)
-
-returns-6 : tie.Need-returns-6
-unfolding limits blocks factsOf
-returns-6 c =
-    rw (
-      sym (c .before .before .before .before .before .before .before .before .before .before .before .before .before .before .before .before .blocks2 .ensures) ∙ c .before .before .before .before .before .before .before .before .before .before .before .before .before .before .before .if1 .left,
-      sym (c .before .before .before .before .before .before .before .before .before .before .before .before .before .blocks3 .ensures) ∙ c .before .before .before .before .before .before .before .before .before .before .before .before .if2 .left,
-      sym (c .before .before .before .before .before .before .before .before .before .before .blocks4 .ensures) ∙ c .before .before .before .before .before .before .before .before .before .if3 .left,
-      sym (c .before .before .before .before .before .before .before .blocks5 .ensures) ∙ c .before .before .before .before .before .before .if4 .left,
-      sym (c .before .before .before .before .blocks6 .ensures) ∙ c .before .before .before .if5 .left,
-      sym (c .before .blocks7 .ensures) ∙ c .if6 .taken,
-    )
-
-add-blocks-5 : tie.Need-add-blocks-5
-add-blocks-5 c = search needs
-
-mul-blocks-5 : tie.Need-mul-blocks-5
-mul-blocks-5 c = search needs
-
-shared-slice-read-blocks-7 : tie.Need-shared-slice-read-blocks-7
-shared-slice-read-blocks-7 c = search needs
-
-blocks-requires-7 : tie.Need-blocks-requires-7
-blocks-requires-7 c κs = let x = c .before .before .before .before .before .before .before .before .before .before .before .before .before .before .before .before .before .before .before .before .before .before in row-listed (x .args .s .now) (good-shape (x .args .s .now) (x .pre .1)) 3 (lit< tt)
-
-returns-7 : tie.Need-returns-7
-unfolding limits blocks factsOf
-returns-7 c =
-    rw (
-      sym (c .before .before .before .before .before .before .before .before .before .before .before .before .before .before .before .before .before .before .before .blocks2 .ensures) ∙ c .before .before .before .before .before .before .before .before .before .before .before .before .before .before .before .before .before .before .if1 .left,
-      sym (c .before .before .before .before .before .before .before .before .before .before .before .before .before .before .before .before .blocks3 .ensures) ∙ c .before .before .before .before .before .before .before .before .before .before .before .before .before .before .before .if2 .left,
-      sym (c .before .before .before .before .before .before .before .before .before .before .before .before .before .blocks4 .ensures) ∙ c .before .before .before .before .before .before .before .before .before .before .before .before .if3 .left,
-      sym (c .before .before .before .before .before .before .before .before .before .before .blocks5 .ensures) ∙ c .before .before .before .before .before .before .before .before .before .if4 .left,
-      sym (c .before .before .before .before .before .before .before .blocks6 .ensures) ∙ c .before .before .before .before .before .before .if5 .left,
-      sym (c .before .before .before .before .blocks7 .ensures) ∙ c .before .before .before .if6 .left,
-      sym (c .before .blocks8 .ensures) ∙ c .if7 .taken,
-    )
-
-returns-8 : tie.Need-returns-8
-unfolding limits blocks factsOf
-returns-8 c =
-    rw (
-      sym (c .before .before .before .before .before .before .before .before .before .before .before .before .before .before .before .before .before .before .before .blocks2 .ensures) ∙ c .before .before .before .before .before .before .before .before .before .before .before .before .before .before .before .before .before .before .if1 .left,
-      sym (c .before .before .before .before .before .before .before .before .before .before .before .before .before .before .before .before .blocks3 .ensures) ∙ c .before .before .before .before .before .before .before .before .before .before .before .before .before .before .before .if2 .left,
-      sym (c .before .before .before .before .before .before .before .before .before .before .before .before .before .blocks4 .ensures) ∙ c .before .before .before .before .before .before .before .before .before .before .before .before .if3 .left,
-      sym (c .before .before .before .before .before .before .before .before .before .before .blocks5 .ensures) ∙ c .before .before .before .before .before .before .before .before .before .if4 .left,
-      sym (c .before .before .before .before .before .before .before .blocks6 .ensures) ∙ c .before .before .before .before .before .before .if5 .left,
-      sym (c .before .before .before .before .blocks7 .ensures) ∙ c .before .before .before .if6 .left,
-      sym (c .before .blocks8 .ensures) ∙ c .if7 .left,
-    )
+    let x = c .before .before .before .args in
+    let n : c .before .loop .i ≡ 7 = omega (arith, c .before .loop .inv .0) in
+    sym (c .before .loop .inv .1 ∙ rw n)
 
 pub first-block-spec : {M : Type 1} → statement M
 first-block-spec =
     tie.close
     (tie.spec
-    shared-slice-read-on
-    shared-slice-read-mood
-    shared-slice-read-blocks
+    Inv-loop
+    μ-loop
+    loop-holds
+    limit-requires
     blocks-requires
     returns
-    add-blocks
-    mul-blocks
-    shared-slice-read-blocks-2
-    blocks-requires-2
-    returns-2
-    add-blocks-2
-    mul-blocks-2
-    shared-slice-read-blocks-3
-    blocks-requires-3
-    returns-3
-    add-blocks-3
-    mul-blocks-3
-    shared-slice-read-blocks-4
-    blocks-requires-4
-    returns-4
-    add-blocks-4
-    mul-blocks-4
-    shared-slice-read-blocks-5
-    blocks-requires-5
-    returns-5
-    shared-slice-read-blocks-6
-    blocks-requires-6
-    returns-6
-    add-blocks-5
-    mul-blocks-5
-    shared-slice-read-blocks-7
-    blocks-requires-7
-    returns-7
-    returns-8)
+    add-i
+    loop-less
+    loop-again
+    returns-2)
