@@ -1,0 +1,52 @@
+-- One number with a bit for each: its ones are as many as stand, and its trailing zeros find the first. Assumes nothing.
+use mathlib.Core.Path.{_≡_, refl, sym, ap, _∙_}
+use mathlib.Core.Bool.{Bool, true, false, cond}
+use mathlib.Core.List.{List, [], _∷_}
+use Prim.Native.Nat.{ℕ, zero, suc, _+_, _*_, _/_, _%_, _^_, _≤_, _<_}
+use native.Mathlib.Omega.{arith}
+use lib.ListN.{length, getD}
+use lib.Count.{ones, ones-step, trailingZeros, under}
+use Rattle.reasons.specs.Why.{bit, bitAt, weigh, howMany}
+
+-- the lowest bit, and the rest
+low : (b : Bool) (m : ℕ) → (bit b + 2 * m) % 2 ≡ bit b
+low true m = omega arith
+low false m = omega arith
+
+rest : (b : Bool) (m : ℕ) → (bit b + 2 * m) / 2 ≡ m
+rest true m = omega arith
+rest false m = omega arith
+
+-- the count of ones
+pub ones-weigh : (bs : List Bool) → ones (weigh bs) ≡ howMany bs
+unfolding ones
+ones-weigh [] = refl
+ones-weigh (b ∷ bs) = ones-step (weigh (b ∷ bs)) ∙ rw (low b (weigh bs), rest b (weigh bs), ones-weigh bs) (go b)
+  where
+    go : (x : Bool) → bit x + howMany bs ≡ cond x (suc (howMany bs)) (howMany bs)
+    go true = omega arith
+    go false = omega arith
+
+-- the name of the first that stands, and 0 if none does
+abbrev pub firstNamed : List ℕ → List Bool → ℕ
+firstNamed [] bs = 0
+firstNamed (n ∷ ns) [] = 0
+firstNamed (n ∷ ns) (b ∷ bs) = cond b n (firstNamed ns bs)
+
+-- the trailing zeros find it
+pub first-weigh : (k : ℕ) (ns : List ℕ) (bs : List Bool) → length ns ≡ length bs → length bs ≤ k → getD ns (trailingZeros k (weigh bs)) 0 ≡ firstNamed ns bs
+unfolding trailingZeros
+first-weigh k [] bs e h = refl
+first-weigh k (n ∷ ns) [] e h = absurd (omega arith)
+first-weigh zero (n ∷ ns) (b ∷ bs) e h = absurd (omega arith)
+first-weigh (suc k) (n ∷ ns) (b ∷ bs) e h = rw (low b (weigh bs), rest b (weigh bs)) (go b (first-weigh k ns bs (omega arith) (omega arith)))
+  where
+    go : (x : Bool) → getD ns (trailingZeros k (weigh bs)) 0 ≡ firstNamed ns bs → getD (n ∷ ns) (under (bit x) (trailingZeros k (weigh bs))) 0 ≡ cond x n (firstNamed ns bs)
+    go true ih = refl
+    go false ih = ih
+
+-- bit i is set just when i stands
+pub bit-weigh : (i : ℕ) (bs : List Bool) → i < length bs → bitAt i (weigh bs) ≡ bit (getD bs i false)
+bit-weigh i [] h = absurd (omega arith)
+bit-weigh zero (b ∷ bs) h = low b (weigh bs)
+bit-weigh (suc i) (b ∷ bs) h = ap (bitAt i) (rest b (weigh bs)) ∙ bit-weigh i bs (omega arith)
