@@ -7,11 +7,11 @@ use Prim.Native.Nat.{ℕ, zero, suc, _-_, _≤_, _<_}
 use native.Mathlib.Omega.{arith}
 use lib.Dec.{lit<, lit≤, leb, ltb, eqb}
 use lib.Count.{ones, trailingZeros}
-use lib.ListN.{length, getD}
+use lib.ListN.{length, getD, List·getD-map}
 use borrow.Author.Tests.{le-ltb, leb-true, ltb-true, ltb-false, eq-eqb, ne-eqb}
 use Rattle.rules.specs.declared.Answer.{Answer}
 use Rattle.rules.specs.Calls.{timed, ask, answer}
-use Rattle.rules.specs.Tables.{inHour, fromNewest}
+use Rattle.rules.specs.Tables.{attach, inHour, fromNewest}
 use Rattle.rules.specs.Rules.{State, Limit, limit, limits, blocks, firstBlock, stands, refusal, runs, verdict, ruling, idle}
 use Rattle.rules.proofs.Checks.{and-left, and-right}
 use Rattle.rules.proofs.Hour.{few}
@@ -94,62 +94,79 @@ module _ (w : State) (t q : ℕ) where
         go true = refl
         go false = refl
 
-    pub back-off-alone : against w t q 10 ≡ runs (w .facts) t q
-    unfolding against firstOf limits alone runs
-    back-off-alone = rw (alone-answers 10) (same (runs (w .facts) t q))
-      where
-        same : (b : Bool) → blocked (cond b (answer 10 (getD (w .facts .services .ends) q 0 - t)) (answer 0 0)) ≡ b
-        same true = refl
-        same false = refl
+    -- what each rule, taken alone, finds: the back-off whether it runs, a limit whether it blocks
+    abbrev pub found : List Bool
+    found = runs (w .facts) t q ∷ map (blocks w t) (limits (w .facts) q)
 
-    -- limit n: b says whether its row blocks
-    limit-alone : (n : ℕ) (b : Bool) → eqb n 10 ≡ false → blocked (answer n 0) ≡ true → firstOf n (limits (w .facts) q) ≡ cond b n 0 → against w t q n ≡ b
+    -- rule n, taken alone, answers with its own number where it finds something, and permits where not
+    pub record Alone (n : ℕ) (b : Bool) : Type 0 where
+      pub number : ruling (alone n w) (timed t (ask q)) .number ≡ cond b n 0
+      pub stands : against w t q n ≡ b
+
+    by-number : (n : ℕ) (b : Bool) → blocked (answer n 0) ≡ true → ruling (alone n w) (timed t (ask q)) .number ≡ cond b n 0 → Alone n b
     unfolding against
-    limit-alone n b k m e = rw (alone-answers n, no-run n k, e) (go b)
+    by-number n b m e = record { number = e; stands = rw e (go b) }
       where
         go : (x : Bool) → blocked (answer (cond x n 0) 0) ≡ x
         go true = m
         go false = refl
 
-    -- each row of the table, taken alone, stands just where it blocks
-    pub row-alone : (i : ℕ) → i < 7 → against w t q (limitAt (w .facts) q i .number) ≡ blocks w t (limitAt (w .facts) q i)
+    back-off-number : ruling (alone 10 w) (timed t (ask q)) .number ≡ cond (runs (w .facts) t q) 10 0
+    unfolding firstOf limits alone runs
+    back-off-number = rw (alone-answers 10) (go (runs (w .facts) t q))
+      where
+        go : (b : Bool) → cond b (answer 10 (getD (w .facts .services .ends) q 0 - t)) (answer 0 0) .number ≡ cond b 10 0
+        go true = refl
+        go false = refl
+
+    limit-number : (n : ℕ) → eqb n 10 ≡ false → ruling (alone n w) (timed t (ask q)) .number ≡ firstOf n (limits (w .facts) q)
+    limit-number n k = rw (alone-answers n, no-run n k)
+
+    -- each of the eight
+    pub each-alone : (i : ℕ) → i < 8 → Alone (getD rules i 0) (getD found i false)
     unfolding firstOf limits
-    row-alone zero h = limit-alone 11 (blocks w t (limitAt (w .facts) q 0)) refl refl refl
-    row-alone (suc zero) h = limit-alone 13 (blocks w t (limitAt (w .facts) q 1)) refl refl refl
-    row-alone (suc (suc zero)) h = limit-alone 14 (blocks w t (limitAt (w .facts) q 2)) refl refl refl
-    row-alone (suc (suc (suc zero))) h = limit-alone 15 (blocks w t (limitAt (w .facts) q 3)) refl refl refl
-    row-alone (suc (suc (suc (suc zero)))) h = limit-alone 16 (blocks w t (limitAt (w .facts) q 4)) refl refl refl
-    row-alone (suc (suc (suc (suc (suc zero))))) h = limit-alone 17 (blocks w t (limitAt (w .facts) q 5)) refl refl refl
-    row-alone (suc (suc (suc (suc (suc (suc zero)))))) h = limit-alone 18 (blocks w t (limitAt (w .facts) q 6)) refl refl refl
-    row-alone (suc (suc (suc (suc (suc (suc (suc i))))))) h = absurd (omega arith)
+    each-alone zero h = by-number 10 (getD found 0 false) refl back-off-number
+    each-alone (suc zero) h = by-number 11 (getD found 1 false) refl (limit-number 11 refl)
+    each-alone (suc (suc zero)) h = by-number 13 (getD found 2 false) refl (limit-number 13 refl)
+    each-alone (suc (suc (suc zero))) h = by-number 14 (getD found 3 false) refl (limit-number 14 refl)
+    each-alone (suc (suc (suc (suc zero)))) h = by-number 15 (getD found 4 false) refl (limit-number 15 refl)
+    each-alone (suc (suc (suc (suc (suc zero))))) h = by-number 16 (getD found 5 false) refl (limit-number 16 refl)
+    each-alone (suc (suc (suc (suc (suc (suc zero)))))) h = by-number 17 (getD found 6 false) refl (limit-number 17 refl)
+    each-alone (suc (suc (suc (suc (suc (suc (suc zero))))))) h = by-number 18 (getD found 7 false) refl (limit-number 18 refl)
+    each-alone (suc (suc (suc (suc (suc (suc (suc (suc i)))))))) h = absurd (omega arith)
+
+    -- a row of the table, taken alone, stands just where it blocks
+    pub row-alone : (i : ℕ) → i < 7 → against w t q (limitAt (w .facts) q i .number) ≡ blocks w t (limitAt (w .facts) q i)
+    unfolding limits blocks
+    row-alone i h =
+        ap (against w t q) (sym (List·getD-map (λ (r : Limit). r .number) (limits (w .facts) q) i (limit 0 false 0 attach)))
+        ∙ each-alone (suc i) (omega arith) .stands
+        ∙ List·getD-map (blocks w t) (limits (w .facts) q) i (limit 0 false 0 attach)
 
     -- all of them
-    pub stand-is : stand w t q ≡ (runs (w .facts) t q ∷ map (blocks w t) (limits (w .facts) q))
+    one : (i : ℕ) → i < 8 → against w t q (getD rules i 0) ≡ getD found i false
+    one i h = each-alone i h .stands
+
+    pub stand-is : stand w t q ≡ found
     unfolding limits
-    stand-is =
-        λ i.
-        back-off-alone i
-        ∷ row-alone 0 (lit< tt) i
-        ∷ row-alone 1 (lit< tt) i
-        ∷ row-alone 2 (lit< tt) i
-        ∷ row-alone 3 (lit< tt) i
-        ∷ row-alone 4 (lit< tt) i
-        ∷ row-alone 5 (lit< tt) i
-        ∷ row-alone 6 (lit< tt) i
-        ∷ []
+    stand-is = λ i. one 0 (lit< tt) i ∷ one 1 (lit< tt) i ∷ one 2 (lit< tt) i ∷ one 3 (lit< tt) i ∷ one 4 (lit< tt) i ∷ one 5 (lit< tt) i ∷ one 6 (lit< tt) i ∷ one 7 (lit< tt) i ∷ []
+
+    -- the time for row i, where x says whether it stands
+    timeBy : ℕ → Bool → ℕ
+    timeBy i x = cond x (leaving w (limitAt (w .facts) q i)) 0
 
     pub times-are : times w t q ≡ (0 ∷ map (λ r. cond (blocks w t r) (leaving w r) 0) (limits (w .facts) q))
-    unfolding limits
+    unfolding limits timeBy
     times-are =
         λ i.
         0
-        ∷ cond (row-alone 0 (lit< tt) i) (leaving w (limitAt (w .facts) q 0)) 0
-        ∷ cond (row-alone 1 (lit< tt) i) (leaving w (limitAt (w .facts) q 1)) 0
-        ∷ cond (row-alone 2 (lit< tt) i) (leaving w (limitAt (w .facts) q 2)) 0
-        ∷ cond (row-alone 3 (lit< tt) i) (leaving w (limitAt (w .facts) q 3)) 0
-        ∷ cond (row-alone 4 (lit< tt) i) (leaving w (limitAt (w .facts) q 4)) 0
-        ∷ cond (row-alone 5 (lit< tt) i) (leaving w (limitAt (w .facts) q 5)) 0
-        ∷ cond (row-alone 6 (lit< tt) i) (leaving w (limitAt (w .facts) q 6)) 0
+        ∷ timeBy 0 (one 1 (lit< tt) i)
+        ∷ timeBy 1 (one 2 (lit< tt) i)
+        ∷ timeBy 2 (one 3 (lit< tt) i)
+        ∷ timeBy 3 (one 4 (lit< tt) i)
+        ∷ timeBy 4 (one 5 (lit< tt) i)
+        ∷ timeBy 5 (one 6 (lit< tt) i)
+        ∷ timeBy 6 (one 7 (lit< tt) i)
         ∷ []
 
     -- the first of those that stand is the gate's own answer
@@ -160,7 +177,7 @@ module _ (w : State) (t q : ℕ) where
     -- ---- What the code finds is what is said
 
     pub said : (m n : ℕ) (bs : List Bool) (ts : List ℕ) → m ≡ weigh bs → n ≡ getD rules (trailingZeros 32 m) 0
-        → bs ≡ (runs (w .facts) t q ∷ map (blocks w t) (limits (w .facts) q)) → ts ≡ (0 ∷ map (λ r. cond (blocks w t r) (leaving w r) 0) (limits (w .facts) q))
+        → bs ≡ found → ts ≡ (0 ∷ map (λ r. cond (blocks w t r) (leaving w r) 0) (limits (w .facts) q))
         → record { refusal = 0; bits = m; count = ones m; first = n; times = ts } ≡ reasons w t q
     unfolding reasons
     said m n bs ts em en eb et =
@@ -193,13 +210,14 @@ refused-said w t q n e h = rw (← e, ne-eqb n 0 h)
 
 -- ---- The time that has to leave
 
--- a limit that blocks is above 0, and so many are on its list
-pub blocks-enough : (a : Bool) (m t : ℕ) (l : List ℕ) → (a && (ltb 0 m && leb m (inHour t l))) ≡ true → (0 < m) × (m ≤ length l)
-blocks-enough a m t l h =
+-- a limit that blocks is above 0, and so many are in the hour
+pub blocks-full : (a : Bool) (m t : ℕ) (l : List ℕ) → (a && (ltb 0 m && leb m (inHour t l))) ≡ true → (0 < m) × (m ≤ inHour t l)
+blocks-full a m t l h =
     let e = and-right a (ltb 0 m && leb m (inHour t l)) h in
-    let p = ltb-true 0 m (and-left (ltb 0 m) (leb m (inHour t l)) e) in
-    let n = leb-true m (inHour t l) (and-right (ltb 0 m) (leb m (inHour t l)) e) in
-    (p, omega (arith, few t l))
+    (ltb-true 0 m (and-left (ltb 0 m) (leb m (inHour t l)) e), leb-true m (inHour t l) (and-right (ltb 0 m) (leb m (inHour t l)) e))
+
+pub blocks-enough : (a : Bool) (m t : ℕ) (l : List ℕ) → (a && (ltb 0 m && leb m (inHour t l))) ≡ true → (0 < m) × (m ≤ length l)
+blocks-enough a m t l h = let f = blocks-full a m t l h in (f .0, omega (arith, f .1, few t l))
 
 pub row-leaving : (b : List ℕ) (q i : ℕ) (r : Row) → RowOf (limitAt (factsOf b) q i) r → fromNewest (r .most) (rowOf b (r .list)) ≡ leaving (view b) (limitAt (factsOf b) q i)
 row-leaving b q i r h = rw (h .most, h .list)

@@ -4,6 +4,7 @@ use mathlib.Core.Bool.{Bool, true, false, cond}
 use mathlib.Core.List.{List, [], _∷_}
 use Prim.Native.Nat.{ℕ, zero, suc, _+_, _*_, _/_, _%_, _^_, _≤_, _<_}
 use native.Mathlib.Omega.{arith}
+use native.Mathlib.Nat.{pow-suc}
 use lib.ListN.{length, getD}
 use lib.Count.{ones, ones-step, trailingZeros, under}
 use Rattle.reasons.specs.Why.{bit, bitAt, weigh, howMany}
@@ -50,3 +51,12 @@ pub bit-weigh : (i : ℕ) (bs : List Bool) → i < length bs → bitAt i (weigh 
 bit-weigh i [] h = absurd (omega arith)
 bit-weigh zero (b ∷ bs) h = low b (weigh bs)
 bit-weigh (suc i) (b ∷ bs) h = ap (bitAt i) (rest b (weigh bs)) ∙ bit-weigh i bs (omega arith)
+
+-- so many bits, and no more
+pub weigh-lt : (bs : List Bool) → weigh bs < 2 ^ length bs
+weigh-lt [] = omega arith
+weigh-lt (b ∷ bs) = let h = weigh-lt bs in rw (pow-suc 2 (length bs)) (go b h)
+  where
+    go : (x : Bool) → weigh bs < 2 ^ length bs → bit x + 2 * weigh bs < 2 ^ length bs * 2
+    go true h = omega arith
+    go false h = omega arith

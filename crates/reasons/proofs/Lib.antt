@@ -1,2 +1,4 @@
 pub mod Alone
 pub mod Bits
+pub mod Leaving
+pub mod Meaning
