@@ -2,3 +2,4 @@ pub mod Alone
 pub mod Bits
 pub mod Leaving
 pub mod Meaning
+pub mod Room

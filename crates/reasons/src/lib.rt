@@ -155,3 +155,40 @@ pub fn why(state: &[u32], time: u32, kind: u32) -> Why
     }
     why_in(state, time, kind)
 }
+
+// Stores the eight times.
+fn store(from: [u32; 8], out: &mut [u32])
+    requires { ⌜ length (now out) ≡ 8 ⌝ }
+    ensures { λ _. ⌜ now (out .exit) ≡ from ⌝ }
+{
+    let mut i: usize = 0;
+    while i < 8 {
+        out[i] = from[i];
+        i += 1;
+    }
+}
+
+// The same in two numbers: the first rule and the bits, or the refusal. The times go to a room of exactly eight numbers.
+pub fn why_into(state: &[u32], time: u32, kind: u32, times: &mut [u32]) -> Answer
+    ensures { λ r. ⌜ RoomSays (now (state .entry)) time kind (now (times .entry)) r (now (times .exit)) ⌝ }
+{
+    if times.len() != 8 {
+        return Answer {
+            number: 1,
+            second: 0,
+        };
+    }
+    let found = why(state, time, kind);
+    if found.refusal != 0 {
+        return Answer {
+            number: found.refusal,
+            second: 0,
+        };
+    }
+    let eight = found.times;
+    store(eight, times);
+    Answer {
+        number: found.first,
+        second: found.bits,
+    }
+}
