@@ -1,8 +1,9 @@
-// The C interface: the nine calls of the gate, exported. Each slice is a pointer and a count, and each call gives back two numbers.
+// The C interface: the ten calls of the gate, exported. Each slice is a pointer and a count, and each call gives back two numbers.
 // include/dialchisel.h says what the caller owes. Each call promises what the gate's own does.
 use rules::Answer;
 ghost use Rattle.rules.specs.Calls.{timed, ask, granted, silent, rejected, dropped, tick};
 ghost use Rattle.clock.specs.Call.{Says};
+ghost use Rattle.reasons.specs.Why.{RoomSays};
 ghost use Rattle.opening.specs.Open.{order, OpenSays};
 ghost use Rattle.saving.specs.Save.{SaveSays};
 ghost use Rattle.command.specs.Command.{CommandSays};
@@ -45,6 +46,15 @@ pub extern "C" fn dialchisel_request(state: &mut [u32], time: u32, kind: u32) ->
     ensures { λ r. ⌜ Says (now (state .entry)) (timed time (ask kind)) r (now (state .exit)) ⌝ }
 {
     gate::request(state, time, kind)
+}
+
+// Why would request `kind` not be permitted at `time`? The first rule that stands against it and a bit for each, or the refusal; the permit times
+// that have to leave the hour go to a room of exactly eight numbers. The state is only read.
+#[no_mangle]
+pub extern "C" fn dialchisel_why(state: &[u32], time: u32, kind: u32, times: &mut [u32]) -> Answer
+    ensures { λ r. ⌜ RoomSays (now (state .entry)) time kind (now (times .entry)) r (now (times .exit)) ⌝ }
+{
+    gate::why_into(state, time, kind, times)
 }
 
 // What was asked of a service was granted.

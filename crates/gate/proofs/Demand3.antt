@@ -14,6 +14,8 @@ use Rattle.rules.specs.Rules.{State, ruling, fresh, short, step, held}
 use Rattle.rules.specs.Told.{tells, ruled, told}
 use Rattle.rules.specs.Demand3.{Bytes, Demand3}
 use Rattle.rules.proofs.Demand3.{as-the-rules, demand-3, held-told}
+use Rattle.rules.proofs.RecordTells.{known-tells}
+use Rattle.rules.proofs.Newest.{Sound, fresh-sound, known-sound}
 use Rattle.buffer.specs.Places.{SIZE}
 use Rattle.buffer.specs.Layout.{lay, view}
 use Rattle.buffer.specs.Good.{good, valid}
@@ -21,6 +23,8 @@ use Rattle.buffer.proofs.Goodness.{good-shape, good-lay, view-lay-valid}
 use Rattle.buffer.proofs.Keep.{keep}
 use Rattle.clock.specs.Call.{callAnswer, callAfter, Says}
 use Rattle.clock.proofs.Saying.{after-is, answer-is}
+use Rattle.reasons.specs.Why.{reasons, whyOf}
+use Rattle.reasons.proofs.Record.{reasons-same}
 use Rattle.opening.specs.Open.{Order, settings, files, openNumber, givenBy, openAfter, OpenSays}
 use Rattle.opening.proofs.Opened.{opened-bytes, opened-valid}
 use Rattle.at.specs.Lines.{readLine}
@@ -145,6 +149,20 @@ pub record OnTheBuffer (g : Given) (before : List Call) (x : List ℕ) : Type 0 
   -- the 1,330 places are what the record tells, each list cut to its newest 255
   pub places : x ≡ lay (short (tells g (told g before)))
   pub stays-good : good x ≡ true
+  -- why a request would not be permitted is told as the record has it
+  pub why : (t q : ℕ) → whyOf x t q ≡ reasons (tells g (told g before)) t q
+
+tells-sound : (g : Given) → Bytes (g .opening) → (cs : List Call) → Sound (tells g (told g cs))
+tells-sound g b cs = rw (← known-tells g cs) (known-sound (fresh g) (fresh-sound g b) cs)
+
+told-why : (g : Given) (before : List Call) (x : List ℕ) → Kept g before x → (t q : ℕ) → whyOf x t q ≡ reasons (tells g (told g before)) t q
+unfolding whyOf
+told-why g before x k t q =
+    let v = held (fresh g) before in
+    ap (λ (y : List ℕ). whyOf y t q) (k .is)
+    ∙ rw (good-lay v (k .valid)) (ap (λ (w : State). reasons w t q) (view-lay-valid v (k .valid)))
+    ∙ ap (λ (w : State). reasons w t q) (held-told g (k .bytes) before)
+    ∙ reasons-same (tells g (told g before)) (tells-sound g (k .bytes) before) t q
 
 on-the-buffer : (g : Given) (before : List Call) (x : List ℕ) → Kept g before x → OnTheBuffer g before x
 on-the-buffer g before x k =
@@ -157,6 +175,7 @@ on-the-buffer g before x k =
       demand = as-the-rules g before (λ c. callAnswer x c) same;
       places = k .is ∙ ap (λ (w : State). lay w) (held-told g (k .bytes) before);
       stays-good = kept-good g before x k;
+      why = λ t q. told-why g before x k t q;
     }
 
 -- DEMAND 3: a buffer of any contents is opened by o, answered 0, and then anything is done with it

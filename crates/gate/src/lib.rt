@@ -2,11 +2,13 @@
 // state of any length and contents, any number, any file and room. A refusal changes nothing in any of them.
 //
 // What each call promises is a relation between what it was given, what it answers and what it leaves: `OpenSays`, `Says`,
-// `CommandSays` and `SaveSays`.
-// Each allows one result only.
+// `CommandSays` and `SaveSays`; of `why`, which changes nothing, what it says, `whyOf` and `RoomSays`. Each allows one result only.
+use reasons::said::Why;
 use rules::Answer;
+ghost use mathlib.Core.Path.{_≡_};
 ghost use Rattle.rules.specs.Calls.{timed, ask, granted, silent, rejected, dropped, tick};
 ghost use Rattle.clock.specs.Call.{Says};
+ghost use Rattle.reasons.specs.Why.{whyOf, RoomSays};
 ghost use Rattle.opening.specs.Open.{order, OpenSays};
 ghost use Rattle.saving.specs.Save.{SaveSays};
 ghost use Rattle.command.specs.Command.{CommandSays};
@@ -47,6 +49,21 @@ pub fn request(state: &mut [u32], time: u32, kind: u32) -> Answer
     ensures { λ r. ⌜ Says (now (state .entry)) (timed time (ask kind)) r (now (state .exit)) ⌝ }
 {
     request::request(state, time, kind)
+}
+
+// Why would request `kind` not be permitted at `time`? Which rules stand against it, which comes first, and which permit of each limit has to leave
+// the hour. The state is only read.
+pub fn why(state: &[u32], time: u32, kind: u32) -> Why
+    ensures { λ r. ⌜ r ≡ whyOf (now (state .entry)) time kind ⌝ }
+{
+    reasons::why(state, time, kind)
+}
+
+// The same in two numbers, the first rule and a bit for each, or the refusal; the times go to a room of exactly eight numbers.
+pub fn why_into(state: &[u32], time: u32, kind: u32, times: &mut [u32]) -> Answer
+    ensures { λ r. ⌜ RoomSays (now (state .entry)) time kind (now (times .entry)) r (now (times .exit)) ⌝ }
+{
+    reasons::why_into(state, time, kind, times)
 }
 
 // What was asked of a service was granted.

@@ -3,3 +3,4 @@ pub mod Bits
 pub mod Leaving
 pub mod Meaning
 pub mod Room
+pub mod Record

@@ -79,18 +79,19 @@ pub record Sound (w : State) : Type 0 where
   pub bytes : Bytes (w .facts .opening)
   pub rising : (k : Kind) → Rising (w .facts .opening .opened) (w .lists k) (w .facts .last)
 
-abbrev Small : List Limit → Type 0
+-- every limit is a byte
+abbrev pub Small : List Limit → Type 0
 Small [] = Unit {0}
 Small (r ∷ rs) = (r .most ≤ 255) × Small rs
 
-limits-small : (f : Facts) (q : ℕ) → Bytes (f .opening) → Small (limits f q)
+pub limits-small : (f : Facts) (q : ℕ) → Bytes (f .opening) → Small (limits f q)
 unfolding limits
 limits-small f q b = (b .N1, (b .F1, (b .F2, (b .F3, (b .F4, (b .A1, (b .S1, tt)))))))
 
 -- ---- The ruling is the same over the newest 255
 
 module _ (w : State) (s : Sound w) (t : ℕ) (late : w .facts .last ≤ t) where
-  blocks-same : (r : Limit) → r .most ≤ 255 → blocks (short w) t r ≡ blocks w t r
+  pub blocks-same : (r : Limit) → r .most ≤ 255 → blocks (short w) t r ≡ blocks w t r
   unfolding blocks short
   blocks-same r h =
       let up = rising-more _ (w .lists (r .kind)) _ t (s .rising (r .kind)) late in
