@@ -44,8 +44,9 @@
 extern "C" {
 #endif
 
-/* Sizes: the state in numbers, the rest in bytes. */
+/* Sizes: the state and the room of dialchisel_why in numbers, the rest in bytes. */
 #define DIALCHISEL_STATE 1330         /* exactly */
+#define DIALCHISEL_RULES 8            /* exactly: a time for each bit of enum dialchisel_rule_bit */
 #define DIALCHISEL_PARAMETER_FILE 32  /* exactly: N1, T1, F1, F2, F3, F4, then zeros */
 #define DIALCHISEL_LEAK_FILE 6        /* exactly: LR-1, LR-2, LR-3, then zeros */
 #define DIALCHISEL_COUNTER_FILE 32    /* exactly: C-BR-1, C-R-1, C-PDP-1 to C-PDP-4, then zeros */
@@ -67,12 +68,14 @@ enum dialchisel_kind {
 enum dialchisel_service { DIALCHISEL_GSM = 0, DIALCHISEL_GPRS = 1, DIALCHISEL_PDP = 2, DIALCHISEL_SMS = 3 };
 
 /* The first number given back. The second is 0 but for 0 (bytes written by command and counters), 10 (seconds left) and 20 (the wait in
- * seconds). Checks run in the order 1, 2, 3, 4, or 1, 5 for an AT line; then 10, then the limits in the order of their numbers: the first
- * that blocks is the one told, and it alone counts. Treat a number that is not here as "no": later versions may add some from 24 up. */
+ * seconds); in dialchisel_why it is the bits of the rules, and there a block moves and counts nothing. Checks run in the order 1, 2, 3, 4,
+ * or 1, 5 for an AT line; then 10, then the limits in the order of their numbers: the first that blocks is the one told, and it alone
+ * counts. Treat a number that is not here as "no": later versions may add some from 24 up. */
 enum dialchisel_number {
     DIALCHISEL_DONE = 0,              /* done or permitted */
     /* Refused: nothing changed. */
-    DIALCHISEL_REFUSED_BUFFER = 1,    /* state not 1,330 numbers or damaged (opening asks the length only), AT room under 16, counter room not 32 */
+    DIALCHISEL_REFUSED_BUFFER = 1,    /* state not 1,330 numbers or damaged (opening asks the length only), AT room under 16, counter room
+                                       * not 32, room of why not 8 */
     DIALCHISEL_REFUSED_RANGE = 2,     /* service, kind, cause, flag or setting out of range; at opening, a bad card file */
     DIALCHISEL_REFUSED_TIME = 3,      /* time below the last one or above 4,000,000,000; opening needs no earlier time */
     DIALCHISEL_REFUSED_STANDING = 4,  /* the service does not stand where the call needs it */
@@ -91,6 +94,18 @@ enum dialchisel_number {
     DIALCHISEL_REATTACH = 21,
     DIALCHISEL_OTHER_NETWORK = 22,
     DIALCHISEL_AS_3GPP = 23           /* go on as 3GPP says; also in place of 20 while NFM is 0 */
+};
+
+/* The rules that can stand against a request, in the order of their numbers: bit i of the second number of dialchisel_why, and times[i]. */
+enum dialchisel_rule_bit {
+    DIALCHISEL_BIT_BACKOFF = 1u << 0, /* DIALCHISEL_BLOCKED_BACKOFF */
+    DIALCHISEL_BIT_N1 = 1u << 1,      /* DIALCHISEL_BLOCKED_N1, and so on */
+    DIALCHISEL_BIT_F1 = 1u << 2,
+    DIALCHISEL_BIT_F2 = 1u << 3,
+    DIALCHISEL_BIT_F3 = 1u << 4,
+    DIALCHISEL_BIT_F4 = 1u << 5,
+    DIALCHISEL_BIT_A1 = 1u << 6,
+    DIALCHISEL_BIT_S1 = 1u << 7
 };
 
 struct dialchisel_answer {
@@ -118,6 +133,17 @@ struct dialchisel_answer dialchisel_open(uint32_t *state, size_t state_count, ui
  * idle; 5 fits always and makes all idle, but ends no back-off. Answers 0 (send it: it counts as sent), 10 to 18 (do not), or refuses
  * with 1 to 4. */
 struct dialchisel_answer dialchisel_request(uint32_t *state, size_t state_count, uint32_t time, uint32_t kind);
+
+/* Why would the gate say no to a request of this kind at this time? Nothing changes but `times`, a room of exactly 8 numbers.
+ *   number  what dialchisel_request would answer: the first rule that stands against the request, or 0 where none does
+ *   second  the bits (enum dialchisel_rule_bit) of all rules that stand: of each one that, taken alone, would block
+ *   times   for the limit of bit i, times[i] is the permit time that has to leave the hour before that limit permits, which it does 3,600 s
+ *           after it: with a limit of L, the time L places from the newest on the limit's list, the newest counted as one. For the
+ *           back-off and for a rule that does not stand it is 0
+ * Answers 0 or 10 to 18, or refuses with 1 to 4 as dialchisel_request would, and with 1 where the room is not of 8 numbers; second is 0
+ * then. `times` is written, whole, only where the number is 0 or 10 and up. */
+struct dialchisel_answer dialchisel_why(const uint32_t *state, size_t state_count, uint32_t time, uint32_t kind,
+                                        uint32_t *times, size_t times_count);
 
 /* The network granted what was asked of a service. Needs the service asked; makes it idle (PDP: up), its failures and back-off 0.
  * Answers 0, or refuses with 1 to 4. */

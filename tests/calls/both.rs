@@ -1,37 +1,11 @@
 //! One call made twice, by the linked library and by the model, and all that is compared afterwards.
 use crate::gate::c;
 use crate::model::{self, *};
+use crate::random::Random;
+use crate::why::Reached;
 use std::collections::BTreeMap;
 use std::fmt::Display;
 use std::process::exit;
-
-/// The generator: xorshift, with a multiplication at the end.
-pub struct Random(pub u64);
-
-impl Random {
-    pub fn next(&mut self) -> u64 {
-        self.0 ^= self.0 >> 12;
-        self.0 ^= self.0 << 25;
-        self.0 ^= self.0 >> 27;
-        self.0.wrapping_mul(0x2545_f491_4f6c_dd1d)
-    }
-
-    pub fn below(&mut self, end: u64) -> u64 {
-        (self.next() >> 8) % end
-    }
-
-    pub fn number(&mut self, end: u32) -> u32 {
-        self.below(u64::from(end)) as u32
-    }
-
-    pub fn pick<T: Copy>(&mut self, from: &[T]) -> T {
-        from[self.below(from.len() as u64) as usize]
-    }
-
-    pub fn chance(&mut self, percent: u64) -> bool {
-        self.below(100) < percent
-    }
-}
 
 /// A buffer as it is lent to a call, between two guards.
 #[derive(Clone)]
@@ -105,6 +79,7 @@ pub enum Call {
     Tick { time: u32 },
     Command { line: Vec<u8>, room: usize },
     Counters { room: usize },
+    Why { time: u32, kind: u32, room: usize },
 }
 
 impl Call {
@@ -119,13 +94,7 @@ impl Call {
             Call::Tick { .. } => "tick",
             Call::Command { .. } => "command",
             Call::Counters { .. } => "counters",
-        }
-    }
-
-    fn room(&self) -> usize {
-        match self {
-            Call::Command { room, .. } | Call::Counters { room } => *room,
-            _ => 0,
+            Call::Why { .. } => "why",
         }
     }
 }
@@ -165,10 +134,32 @@ impl Inputs {
     }
 }
 
+/// The buffers that a call writes to besides the state: a room of bytes, and one of numbers for `why`.
+#[derive(Clone)]
+struct Rooms {
+    bytes: Lent<u8>,
+    times: Lent<u32>,
+}
+
+impl Rooms {
+    fn of(call: &Call, random: &mut Random) -> Rooms {
+        let (bytes, times) = match *call {
+            Call::Command { room, .. } | Call::Counters { room } => (room, 0),
+            Call::Why { room, .. } => (0, room),
+            _ => (0, 0),
+        };
+        let bytes: Vec<u8> = (0..bytes).map(|_| random.next() as u8).collect();
+        let times: Vec<u32> = (0..times).map(|_| random.next() as u32).collect();
+        let start = random.below(9) as usize;
+        Rooms { bytes: Lent::new(&bytes, start, || random.next() as u8), times: Lent::new(&times, start, || random.next() as u32) }
+    }
+}
+
 /// The library's answer. Two const buffers with the same bytes are lent as one, which the interface allows.
-fn by_library(state: &mut Lent<u32>, call: &Call, inputs: &mut Inputs, room: &mut Lent<u8>, odd: u64) -> Answer {
+fn by_library(state: &mut Lent<u32>, call: &Call, inputs: &mut Inputs, rooms: &mut Rooms, odd: u64) -> Answer {
     let (s, n) = (state.pointer(odd), state.count);
-    let (out, out_count) = (room.pointer(odd), room.count);
+    let (out, out_count) = (rooms.bytes.pointer(odd), rooms.bytes.count);
+    let (times, times_count) = (rooms.times.pointer(odd), rooms.times.count);
     let numbers = (inputs.numbers.pointer(odd) as *const u32, inputs.numbers.count);
     let mut bytes = [0, 1, 2].map(|i| (inputs.bytes[i].pointer(odd) as *const u8, inputs.bytes[i].count));
     if inputs.bytes[0].part() == inputs.bytes[2].part() {
@@ -203,13 +194,14 @@ fn by_library(state: &mut Lent<u32>, call: &Call, inputs: &mut Inputs, room: &mu
             Call::Tick { time } => c::dialchisel_tick(s, n, time),
             Call::Command { .. } => c::dialchisel_command(s, n, first.0, first.1, out, out_count),
             Call::Counters { .. } => c::dialchisel_counters(s, n, out, out_count),
+            Call::Why { time, kind, .. } => c::dialchisel_why(s, n, time, kind, times, times_count),
         }
     };
     (answer.number, answer.second)
 }
 
-/// The model's answer.
-pub fn by_model(s: &mut [u32], call: &Call, room: &mut [u8]) -> Answer {
+/// The model's answer. `room` is for bytes, `times` for `why`.
+pub fn by_model(s: &mut [u32], call: &Call, room: &mut [u8], times: &mut [u32]) -> Answer {
     match call {
         Call::Open(o) => model::open(s, o.time, o.imsi, &o.intervals, o.nfm, o.rpm, o.a1, o.s1, &o.params, &o.leaks, &o.counters),
         Call::Request { time, kind } => model::request(s, *time, *kind),
@@ -220,6 +212,7 @@ pub fn by_model(s: &mut [u32], call: &Call, room: &mut [u8]) -> Answer {
         Call::Tick { time } => model::tick(s, *time),
         Call::Command { line, .. } => model::command(s, line, room),
         Call::Counters { .. } => model::counters(s, room),
+        Call::Why { time, kind, .. } => model::why(s, *time, *kind, times),
     }
 }
 
@@ -233,6 +226,8 @@ pub struct Bench {
     /// Permits on a list that was full, and blocks by a limit of 254 or 255.
     pub cuts: [u64; 5],
     pub high: BTreeMap<u32, u64>,
+    /// What `why` told. Its answers are counted there, and not above.
+    pub reached: Reached,
 }
 
 impl Bench {
@@ -240,24 +235,23 @@ impl Bench {
     pub fn call(&mut self, pair: &mut Pair, call: &Call) -> Answer {
         self.calls += 1;
         *self.kinds.entry(call.name()).or_default() += 1;
-        let bytes: Vec<u8> = (0..call.room()).map(|_| self.random.next() as u8).collect();
-        let start = self.random.below(9) as usize;
-        let mut library_room = Lent::new(&bytes, start, || self.random.next() as u8);
-        let mut model_room = library_room.clone();
+        let lent = Rooms::of(call, &mut self.random);
+        let (mut library_rooms, mut model_rooms) = (lent.clone(), lent.clone());
         let mut inputs = Inputs::of(call, &mut self.random);
         let (numbers, files) = (inputs.numbers.clone(), inputs.bytes.clone());
         let full = full_lists(pair.model.part());
 
         let odd = self.random.next();
-        let library = by_library(&mut pair.library, call, &mut inputs, &mut library_room, odd);
-        let model = by_model(pair.model.part_mut(), call, model_room.part_mut());
+        let library = by_library(&mut pair.library, call, &mut inputs, &mut library_rooms, odd);
+        let model = by_model(pair.model.part_mut(), call, model_rooms.bytes.part_mut(), model_rooms.times.part_mut());
 
         if library != model {
             self.fail(call, &format!("answer: library {library:?}, model {model:?}"));
         }
         let differences = [
             pair.library.difference("state", &pair.model),
-            library_room.difference("room", &model_room),
+            library_rooms.bytes.difference("room", &model_rooms.bytes),
+            library_rooms.times.difference("times", &model_rooms.times),
             inputs.numbers.difference("intervals", &numbers),
             inputs.bytes[0].difference("first bytes lent", &files[0]),
             inputs.bytes[1].difference("second bytes lent", &files[1]),
@@ -268,6 +262,10 @@ impl Bench {
         }
         if !(1..=5).contains(&model.0) && !good(pair.model.part()) {
             self.fail(call, "the state after it is bad");
+        }
+        if let Call::Why { .. } = call {
+            self.look_at_why(call, pair.model.part(), library, lent.times.part(), library_rooms.times.part());
+            return model;
         }
         *self.answers.entry(model.0).or_default() += 1;
         self.count_long(call, model, full, pair.model.part());

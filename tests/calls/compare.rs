@@ -1,22 +1,28 @@
-//! Compares the linked library with the model of document 01, call by call: both numbers, every place of the state, every byte of every
-//! room, and a guard on either side of each buffer. SEED in the environment repeats a run; without it the clock gives the seed.
-//! It fails at the first difference, and at the end where an answer, a permit on a full list or a block by a limit of 254 or 255 was met
-//! fewer than 100 times.
+//! Compares the linked library with the model of document 01, call by call: both numbers, every place of the state and of every room, and
+//! a guard on either side of each buffer. SEED in the environment repeats a run; without it the clock gives the seed.
+//! It fails at the first difference, and at the end where an answer, a permit on a full list, a block by a limit of 254 or 255, or of
+//! `why` a number, a rule, two or three rules at once or an edge of the lists was met fewer than 100 times.
 mod both;
 #[allow(dead_code)]
 #[path = "../link/gate.rs"]
 mod gate;
 mod made;
 mod model;
+mod random;
+mod reasons;
+mod why;
 
-use both::{by_model, file, Bench, Call, Opening, Random};
+use both::{by_model, file, Bench, Call, Opening, Pair};
 use made::EDGES;
 use model::*;
+use random::Random;
 use std::collections::BTreeMap;
 use std::fmt::Display;
 use std::process::exit;
+use why::{Reached, MET};
 
 const ANSWERS: [u32; 18] = [0, 1, 2, 3, 4, 5, 10, 11, 13, 14, 15, 16, 17, 18, 20, 21, 22, 23];
+const WHY_NUMBERS: [u32; 13] = [0, 1, 2, 3, 4, 10, 11, 13, 14, 15, 16, 17, 18];
 const LEAST_EACH: u64 = 100;
 const LEAST_CALLS: u64 = 200_000;
 
@@ -37,7 +43,7 @@ impl Bench {
         }
     }
 
-    /// The document's own figures, on both: C1 to C10 and the printed example.
+    /// The document's own figures, on both: C1 to C10 and the printed example. In each, at most one rule stands against a request.
     fn figures(&mut self) {
         let ask = |time, kind| Call::Request { time, kind };
         let grant = |time, service| Call::Granted { time, service };
@@ -47,40 +53,49 @@ impl Bench {
 
         let mut c1 = self.opened(&plain);
         for (time, wait) in [(0, 89), (1000, 149), (2000, 389), (3000, 389)] {
-            self.expect(&mut c1, ask(time, 0), (0, 0));
-            self.expect(&mut c1, reject(time, 0, 3), (20, wait));
+            self.figure(&mut c1, ask(time, 0), (0, 0));
+            self.figure(&mut c1, reject(time, 0, 3), (20, wait));
         }
         let mut printed = self.opened(&Opening { time: 1000, s1: 2, ..plain.clone() });
         let rows = [(ask(1000, 2), 0, 0), (reject(1010, 2, 26), 20, 89), (ask(1098, 2), 10, 1), (ask(1099, 2), 0, 0)];
         for (call, number, second) in rows.into_iter().chain([(grant(1100, 2), 0, 0), (ask(1101, 2), 4, 0)]) {
-            self.expect(&mut printed, call, (number, second));
+            self.figure(&mut printed, call, (number, second));
         }
         let mut c4 = self.opened(&Opening { s1: 2, ..plain.clone() });
         for (call, number) in
             [(ask(10, 3), 0), (grant(10, 3), 0), (ask(20, 3), 0), (grant(20, 3), 0), (ask(3609, 3), 18), (ask(3610, 3), 0)]
         {
-            self.expect(&mut c4, call, (number, 0));
+            self.figure(&mut c4, call, (number, 0));
         }
         let mut c6 = self.opened(&with(&[1]));
         for (call, number) in [(ask(100, 5), 0), (ask(3699, 5), 11), (ask(3700, 5), 0)] {
-            self.expect(&mut c6, call, (number, 0));
+            self.figure(&mut c6, call, (number, 0));
         }
         let mut c8 = self.opened(&with(&[0, 0, 0, 0, 0, 2]));
         for (call, number) in [(ask(0, 2), 0), (grant(1, 2), 0), (ask(2, 4), 0), (ask(3, 2), 16)] {
-            self.expect(&mut c8, call, (number, 0));
+            self.figure(&mut c8, call, (number, 0));
         }
         let mut c9 = self.opened(&Opening { nfm: 0, ..with(&[0, 0, 0, 1]) });
         for (call, number) in [(ask(0, 2), 0), (reject(1, 2, 33), 23), (ask(2, 2), 14)] {
-            self.expect(&mut c9, call, (number, 0));
+            self.figure(&mut c9, call, (number, 0));
         }
         let mut c10 = self.opened(&Opening { leaks: file(6, &[0, 0, 1]), counters: file(32, &[0, 0, 3]), ..plain.clone() });
         for (time, count) in [(3599, 3), (3600, 2), (10_800, 0)] {
             let tick = Call::Tick { time };
-            self.expect(&mut c10, tick.clone(), (0, 0));
+            self.figure(&mut c10, tick.clone(), (0, 0));
             if c10.model.part()[C_PDP_1] != count {
                 self.fail(&tick, "C-PDP-1 is not as C10 has it");
             }
         }
+    }
+
+    /// A call whose answer the document gives; where it is a request, `why` names that answer before it, and its bit alone.
+    fn figure(&mut self, pair: &mut Pair, call: Call, answer: Answer) {
+        if let Call::Request { time, kind } = call {
+            let bits = RULES.iter().position(|&(number, _)| number == answer.0).map_or(0, |bit| 1 << bit);
+            self.expect(pair, Call::Why { time, kind, room: 8 }, (answer.0, bits));
+        }
+        self.expect(pair, call, answer);
     }
 
     /// Each limit with one permit less, as many and one more in the hour, whose oldest is just in it or just out; for every request, mood,
@@ -102,7 +117,7 @@ impl Bench {
     fn limited(&mut self, limit: usize, list: usize, most: u32, sent: u32, age: u32) -> Vec<u32> {
         let now = 100_000;
         let mut state = vec![0; PLACES];
-        by_model(&mut state, &Call::Open(Bench::classroom()), &mut []);
+        by_model(&mut state, &Call::Open(Bench::classroom()), &mut [], &mut []);
         state[LAST] = now;
         state[limit] = most;
         state[LENGTHS + list] = sent;
@@ -126,7 +141,7 @@ impl Bench {
                     (other[MOOD], other[RPM]) = (mood, rpm);
                     other[STANDINGS + 2] = if kind == 4 { UP } else { IDLE };
                     let mut pair = self.pair(&other);
-                    self.call(&mut pair, &Call::Request { time: 100_000, kind });
+                    self.ask(&mut pair, 100_000, kind);
                 }
             }
         }
@@ -151,7 +166,7 @@ impl Bench {
     /// A clock call and a blocked reset at `new` on a state at `old`, whose counters leak at one rate and at others.
     fn leak(&mut self, rate: u32, opened: u32, old: u32, new: u32) {
         let mut state = vec![0; PLACES];
-        by_model(&mut state, &Call::Open(Opening { time: opened, ..Bench::classroom() }), &mut []);
+        by_model(&mut state, &Call::Open(Opening { time: opened, ..Bench::classroom() }), &mut [], &mut []);
         state[LAST] = old;
         for hours in &mut state[LEAK_RATES..LEAK_RATES + 3] {
             *hours = if self.random.chance(70) { rate } else { self.random.pick(&[0, 1, 3]) };
@@ -303,7 +318,7 @@ impl Bench {
         let (length, end, standing) = [(255, 200_050, ASKED), (100, 200_050, UP), (0, 0, IDLE)][which];
         let opening = Opening { time: 100_000, imsi: LARGEST_IMSI, nfm: u32::from(which < 2), ..self.opening() };
         let mut s = vec![0; PLACES];
-        by_model(&mut s, &Call::Open(opening), &mut []);
+        by_model(&mut s, &Call::Open(opening), &mut [], &mut []);
         s[LAST] = 200_000;
         s[ENDS..ENDS + 4].fill(end);
         s[STANDINGS + 2] = standing;
@@ -358,6 +373,7 @@ impl Bench {
             0 => Call::Open(self.opening()),
             1 => Call::Counters { room: 32 },
             2 | 3 => Call::Command { line: self.line(), room: 16 },
+            4 => Call::Why { time: before[LAST], kind: self.random.number(6), room: 8 },
             _ => self.next_call(before, false, 40),
         };
         for call in [Call::Tick { time: LATEST }, call] {
@@ -378,7 +394,8 @@ impl Bench {
                 let line = self.line();
                 let one = self.any_call(good[LAST]);
                 let other = self.next_call(&good, false, 40);
-                for call in [Call::Open(opening), Call::Command { line, room: 16 }, Call::Counters { room: 32 }, one, other] {
+                let why = Call::Why { time: good[LAST], kind: 5, room: 8 };
+                for call in [Call::Open(opening), Call::Command { line, room: 16 }, Call::Counters { room: 32 }, why, one, other] {
                     self.expect(&mut pair, call, (1, 0));
                 }
             }
@@ -395,6 +412,10 @@ impl Bench {
                     let mut pair = self.pair(&state);
                     self.call(&mut pair, &Call::Command { line: line.to_vec(), room });
                     self.call(&mut pair, &Call::Counters { room });
+                }
+                for kind in (0..6).chain([6, u32::MAX]) {
+                    let mut pair = self.pair(&state);
+                    self.call(&mut pair, &Call::Why { time: state[LAST], kind, room });
                 }
             }
         }
@@ -488,6 +509,8 @@ impl Bench {
                         Call::Rejected { time, service, cause: 26, second: 0 },
                         Call::Dropped { time },
                         Call::Tick { time },
+                        Call::Why { time, kind: service, room: 8 },
+                        Call::Why { time, kind: service, room: 7 },
                     ];
                     for standing in [IDLE, ASKED, UP] {
                         let mut other = state.clone();
@@ -511,14 +534,35 @@ impl Bench {
         println!("compare: permits on a full list: {}", listed(&lists.into_iter().zip(self.cuts).collect()));
         println!("compare: blocks by limits of 254 and 255: {}", listed(&self.high));
         let long = self.cuts.iter().all(|&n| n >= LEAST_EACH) && self.high.len() == 7 && self.high.values().all(|&n| n >= LEAST_EACH);
-        let seldom: Vec<u32> = ANSWERS.into_iter().filter(|a| self.answers.get(a).copied().unwrap_or(0) < LEAST_EACH).collect();
+        let mut seldom = too_seldom("answer", &ANSWERS, &self.answers);
         let strange: Vec<&u32> = self.answers.keys().filter(|a| !ANSWERS.contains(a)).collect();
+        seldom.extend(self.why_seldom());
         let enough = seldom.is_empty() && strange.is_empty() && long && self.calls >= LEAST_CALLS;
         if !enough {
             println!("compare: not enough: too seldom {seldom:?}, unknown {strange:?}, long lists enough: {long}");
         }
         enough
     }
+
+    /// Prints what `why` told, and gives back what was met too seldom.
+    fn why_seldom(&self) -> Vec<String> {
+        let Reached { numbers, rules, at_once, met } = &self.reached;
+        println!("compare: why, numbers: {}", listed(numbers));
+        println!("compare: why, rules that stood: {}", listed(rules));
+        println!("compare: why, rules at once: {}", listed(at_once));
+        println!("compare: why, limits: {}", listed(met));
+        let mut seldom = too_seldom("why number", &WHY_NUMBERS, numbers);
+        seldom.extend(too_seldom("why rule", &RULES.map(|(number, _)| number), rules));
+        seldom.extend(too_seldom("why at once", &[0, 1, 2, 3], at_once));
+        seldom.extend(too_seldom("why limit", &MET, met));
+        seldom
+    }
+}
+
+/// Which of these were counted fewer than 100 times.
+fn too_seldom<T: Ord + Display>(what: &str, needed: &[T], counts: &BTreeMap<T, u64>) -> Vec<String> {
+    let seldom = needed.iter().filter(|name| counts.get(name).copied().unwrap_or(0) < LEAST_EACH);
+    seldom.map(|name| format!("{what}: {name}")).collect()
 }
 
 /// Each thing counted and how often, on one line.
@@ -547,9 +591,20 @@ fn main() {
     };
     println!("compare: seed {seed}");
     let random = Random(seed.max(1));
-    let mut bench = Bench { seed, random, calls: 0, kinds: BTreeMap::new(), answers: BTreeMap::new(), cuts: [0; 5], high: BTreeMap::new() };
+    let mut bench = Bench {
+        seed,
+        random,
+        calls: 0,
+        kinds: BTreeMap::new(),
+        answers: BTreeMap::new(),
+        cuts: [0; 5],
+        high: BTreeMap::new(),
+        reached: Reached::default(),
+    };
     bench.figures();
     bench.limits();
+    bench.every_set();
+    bench.near_limits();
     bench.leaks();
     bench.openings();
     bench.files();

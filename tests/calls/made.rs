@@ -50,7 +50,7 @@ impl Bench {
     /// Any good state, reached or not, by the table alone.
     pub fn good_state(&mut self) -> Vec<u32> {
         let mut s = vec![0; PLACES];
-        by_model(&mut s, &Call::Open(self.opening()), &mut []);
+        by_model(&mut s, &Call::Open(self.opening()), &mut [], &mut []);
         let random = &mut self.random;
         let passed = random.pick(&[0, 1, HOUR, 100_000]).min(LATEST - s[OPENED]);
         s[LAST] = s[OPENED] + passed;
@@ -134,6 +134,7 @@ impl Bench {
             6 => Call::Granted { time, service },
             7 => Call::Rejected { time, service, cause: self.random.number(256), second: self.random.number(2) },
             8 => Call::Silent { time, service },
+            9 => Call::Why { time, kind: self.random.number(6), room: 8 },
             _ if asked && self.random.chance(grants) => Call::Granted { time, service },
             _ if asked && self.random.chance(35) => Call::Silent { time, service },
             _ if asked => {
@@ -153,7 +154,7 @@ impl Bench {
         let time = if self.random.chance(90) { time } else { edge };
         let (service, other) = (self.random.number(5), self.random.pick(&EDGES));
         let service = if self.random.chance(80) { service } else { other };
-        match self.random.below(8) {
+        match self.random.below(9) {
             0 => Call::Request { time, kind: service },
             1 => Call::Granted { time, service },
             2 => Call::Rejected { time, service, cause: self.random.pick(&EDGES), second: self.random.number(3) },
@@ -161,7 +162,8 @@ impl Bench {
             4 => Call::Dropped { time },
             5 => Call::Tick { time },
             6 => Call::Command { line: self.line(), room: self.random.below(41) as usize },
-            _ => Call::Counters { room: self.random.pick(&[31, 32, 32, 33]) },
+            7 => Call::Counters { room: self.random.pick(&[31, 32, 32, 33]) },
+            _ => Call::Why { time, kind: service, room: self.random.pick(&[0, 7, 8, 8, 8, 9]) },
         }
     }
 

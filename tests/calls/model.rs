@@ -1,5 +1,6 @@
-//! A model of the nine calls on the buffer of 1,330 numbers, written from document 01 alone. It is plain and slow on purpose: each part
-//! names the heading of the document that it follows, to be read beside it. It never panics, whatever it is given.
+//! A model of the ten calls on the buffer of 1,330 numbers, written from document 01 and, for `why`, from the customer's request §1, and
+//! from nothing else. It is plain and slow on purpose: each part names the heading that it follows, to be read beside it. It never panics,
+//! whatever it is given.
 #![forbid(unsafe_code)]
 
 /// The two numbers given back.
@@ -275,10 +276,14 @@ fn first_limit(s: &[u32], time: u32, kind: u32) -> Option<(u32, Option<usize>)> 
 }
 
 /// "In the hour of t" means a permit time p with p <= t and p + 3,600 > t.
-fn in_the_hour(s: &[u32], list: usize, t: u32) -> u32 {
+pub fn in_the_hour(s: &[u32], list: usize, t: u32) -> u32 {
+    permits(s, list).iter().filter(|&&p| p <= t && p + HOUR > t).count() as u32
+}
+
+/// The permit times on a list of a good state, oldest first.
+pub fn permits(s: &[u32], list: usize) -> &[u32] {
     let start = LISTS + LIST_ROOM * list;
-    let times = &s[start..start + s[LENGTHS + list] as usize];
-    times.iter().filter(|&&p| p <= t && p + HOUR > t).count() as u32
+    &s[start..start + s[LENGTHS + list] as usize]
 }
 
 /// "A list holds the newest permit times, oldest first ... At 255 the oldest goes."
@@ -292,6 +297,65 @@ fn append(s: &mut [u32], list: usize, time: u32) {
         s[start + length] = time;
         s[LENGTHS + list] += 1;
     }
+}
+
+/// The rules that can stand against a request, by their bits: "Bits run in document 01's order". Each has the number that it gives back
+/// and, where it is a limit, the limit's place and its list.
+pub const RULES: [(u32, Option<(usize, usize)>); 8] = [
+    (10, None),
+    (11, Some((N1, RESET))),
+    (13, Some((F1, ACTIVATION))),
+    (14, Some((F2, ACTIVATION))),
+    (15, Some((F3, ACTIVATION))),
+    (16, Some((F4, PDP))),
+    (17, Some((A1, ATTACH))),
+    (18, Some((S1, SMS))),
+];
+
+/// §1, "Say why the gate said no": the first rule that stands and a bit for each, and the times that have to leave the hour.
+pub fn why(s: &[u32], time: u32, kind: u32, times: &mut [u32]) -> Answer {
+    if times.len() != RULES.len() {
+        return (1, 0);
+    }
+    // "Requests that would be refused 1 to 4 get that number and no rules."
+    let (answer, _) = request(&mut s.to_vec(), time, kind);
+    if (1..=4).contains(&answer) {
+        return (answer, 0);
+    }
+    let (mut first, mut bits) = (0, 0);
+    for (rule, (number, limit)) in RULES.into_iter().enumerate() {
+        times[rule] = 0;
+        if !alone_blocks(s, rule, time, kind) {
+            continue;
+        }
+        bits |= 1 << rule;
+        if first == 0 {
+            first = number;
+        }
+        if let Some((place, list)) = limit {
+            times[rule] = from_the_newest(s, list, s[place]);
+        }
+    }
+    (first, bits)
+}
+
+/// "A bit is set exactly when that rule, taken alone, would block": the request is asked of a copy of a good state in which every other
+/// limit is disabled by a zero and, unless the rule is the back-off, no back-off runs.
+pub fn alone_blocks(s: &[u32], rule: usize, time: u32, kind: u32) -> bool {
+    let mut alone = s.to_vec();
+    for (other, (_, limit)) in RULES.into_iter().enumerate() {
+        match limit {
+            _ if other == rule => {}
+            None => alone[ENDS..ENDS + 4].fill(0),
+            Some((place, _)) => alone[place] = 0,
+        }
+    }
+    (10..=18).contains(&request(&mut alone, time, kind).0)
+}
+
+/// "The permit time that has to leave the hour", for a limit L that stands: L places from the newest, the newest counted as one.
+fn from_the_newest(s: &[u32], list: usize, limit: u32) -> u32 {
+    permits(s, list).iter().rev().zip(1..).find(|&(_, place)| place == limit).map_or(0, |(&p, _)| p)
 }
 
 /// "Granted, rejected and silent need standing 1 of services 0-3."

@@ -31,6 +31,7 @@ pub mod c {
             counters_count: usize,
         ) -> Answer;
         pub fn dialchisel_request(state: *mut u32, state_count: usize, time: u32, kind: u32) -> Answer;
+        pub fn dialchisel_why(state: *const u32, state_count: usize, time: u32, kind: u32, times: *mut u32, times_count: usize) -> Answer;
         pub fn dialchisel_granted(state: *mut u32, state_count: usize, time: u32, service: u32) -> Answer;
         pub fn dialchisel_rejected(state: *mut u32, state_count: usize, time: u32, service: u32, cause: u32, second: u32) -> Answer;
         pub fn dialchisel_silent(state: *mut u32, state_count: usize, time: u32, service: u32) -> Answer;
@@ -50,6 +51,9 @@ pub mod c {
 
 /// How many numbers a state has.
 pub const STATE: usize = 1330;
+
+/// How many rules can stand against a request.
+pub const RULES: usize = 8;
 
 /// What a request asks for.
 #[derive(Clone, Copy, Debug, PartialEq, Eq)]
@@ -113,6 +117,52 @@ pub enum Block {
     F4,
     A1,
     S1,
+}
+
+/// A rule that can stand against a request, by its bit.
+#[derive(Clone, Copy, Debug, PartialEq, Eq)]
+pub enum Rule {
+    BackOff = 0,
+    N1 = 1,
+    F1 = 2,
+    F2 = 3,
+    F3 = 4,
+    F4 = 5,
+    A1 = 6,
+    S1 = 7,
+}
+
+/// The rules that stand against a request.
+#[derive(Clone, Copy, Debug, PartialEq, Eq)]
+pub struct Reasons {
+    bits: u32,
+    times: [u32; RULES],
+}
+
+impl Reasons {
+    /// How many rules stand.
+    pub fn count(&self) -> u32 {
+        self.bits.count_ones()
+    }
+
+    /// The first of them, which is the one that `request` would tell; `None` where it would permit.
+    pub fn first(&self) -> Option<Rule> {
+        let order = [Rule::BackOff, Rule::N1, Rule::F1, Rule::F2, Rule::F3, Rule::F4, Rule::A1, Rule::S1];
+        order.into_iter().find(|&rule| self.stands(rule))
+    }
+
+    /// Would this rule, taken alone, block the request?
+    pub fn stands(&self, rule: Rule) -> bool {
+        self.bits >> rule as u32 & 1 == 1
+    }
+
+    /// The permit time that has to leave the hour before this limit permits; `None` for the back-off and for a rule that does not stand.
+    pub fn leaves(&self, rule: Rule) -> Option<u32> {
+        if rule == Rule::BackOff || !self.stands(rule) {
+            return None;
+        }
+        self.times.get(rule as usize).copied()
+    }
 }
 
 /// What to do after an outcome.
@@ -196,8 +246,8 @@ impl Gate {
     /// Opens this gate anew; a refusal leaves it as it was.
     pub fn reopen(&mut self, settings: &Settings) -> Verdict {
         let Settings { time, imsi, intervals, nfm, rpm, a1, s1, parameters, leak_rates, counters } = *settings;
-        // SAFETY (here and below): each pointer and count come from one slice, which is borrowed, the state alone for writing, until the
-        // call returns.
+        // SAFETY (here and below): each pointer and count come from one slice, which is borrowed until the call returns, for writing where
+        // the pointer is not const.
         unsafe {
             c::dialchisel_open(
                 self.state.as_mut_ptr(),
@@ -223,6 +273,16 @@ impl Gate {
 
     pub fn request(&mut self, time: u32, request: Request) -> Verdict {
         unsafe { c::dialchisel_request(self.state.as_mut_ptr(), STATE, time, request as u32) }.into()
+    }
+
+    /// Why a request would be blocked now, or why it would be refused. The gate stays as it is.
+    pub fn why(&self, time: u32, request: Request) -> Result<Reasons, Verdict> {
+        let mut times = [0; RULES];
+        let answer = unsafe { c::dialchisel_why(self.state.as_ptr(), STATE, time, request as u32, times.as_mut_ptr(), RULES) };
+        match answer.number {
+            0 | 10..=18 => Ok(Reasons { bits: answer.second, times }),
+            _ => Err(answer.into()),
+        }
     }
 
     pub fn granted(&mut self, time: u32, service: Service) -> Verdict {

@@ -1,5 +1,5 @@
-/* A C program on the archive: document 01's printed example, refusals, AT lines, the counter file. It ends in failure on any surprise.
- * It is C99, and C++17 too. */
+/* A C program on the archive: document 01's printed example, refusals, AT lines, why the gate says no, the counter file. It ends in failure
+ * on any surprise. It is C99, and C++17 too. */
 #include "dialchisel.h"
 
 #include <stdio.h>
@@ -61,8 +61,11 @@ static void example(void)
 static void refusals(void)
 {
     uint32_t before[DIALCHISEL_STATE];
+    const uint32_t sevens[DIALCHISEL_RULES] = {7, 7, 7, 7, 7, 7, 7, 7};
+    uint32_t times[DIALCHISEL_RULES];
     uint8_t room[DIALCHISEL_COUNTER_FILE];
     memcpy(before, state, sizeof before);
+    memcpy(times, sevens, sizeof times);
     same("short state", opened(count - 1, 1, DIALCHISEL_LEAK_FILE), DIALCHISEL_REFUSED_BUFFER, 0);
     same("no state", dialchisel_tick(NULL, 0, 1100), DIALCHISEL_REFUSED_BUFFER, 0);
     same("small AT room", dialchisel_command(state, count, (const uint8_t *)"AT+NFM=?\r", 9, room, 15), DIALCHISEL_REFUSED_BUFFER, 0);
@@ -75,7 +78,27 @@ static void refusals(void)
     same("time too late", dialchisel_dropped(state, count, DIALCHISEL_LATEST + 1), DIALCHISEL_REFUSED_TIME, 0);
     same("no CR", dialchisel_command(state, count, (const uint8_t *)"AT+NFM=1", 8, room, sizeof room), DIALCHISEL_REFUSED_LINE, 0);
     same("no line", dialchisel_command(state, count, NULL, 0, room, sizeof room), DIALCHISEL_REFUSED_LINE, 0);
+    same("seven times", dialchisel_why(state, count, 1100, DIALCHISEL_MODULE_RESET, times, 7), DIALCHISEL_REFUSED_BUFFER, 0);
+    same("why, no such kind", dialchisel_why(state, count, 1100, 6, times, DIALCHISEL_RULES), DIALCHISEL_REFUSED_RANGE, 0);
+    same("why, PDP is up", dialchisel_why(state, count, 1100, DIALCHISEL_PDP_ACTIVATION, times, DIALCHISEL_RULES),
+         DIALCHISEL_REFUSED_STANDING, 0);
     is("refusals change nothing", memcmp(before, state, sizeof before) == 0);
+    is("refusals tell no times", memcmp(sevens, times, sizeof times) == 0);
+}
+
+/* Why the gate says no to a third SMS, after two at 1200 and 1202 with S1 = 2; the state stays as it is. */
+static void reasons(void)
+{
+    uint32_t before[DIALCHISEL_STATE];
+    uint32_t times[DIALCHISEL_RULES];
+    memcpy(before, state, sizeof before);
+    same("why, third SMS", dialchisel_why(state, count, 4799, DIALCHISEL_SMS_SENDING, times, DIALCHISEL_RULES), DIALCHISEL_BLOCKED_S1,
+         DIALCHISEL_BIT_S1);
+    is("the first SMS has to leave the hour", times[7] == 1200);
+    is("no other time", (times[0] | times[1] | times[2] | times[3] | times[4] | times[5] | times[6]) == 0);
+    same("why, in the next hour", dialchisel_why(state, count, 4800, DIALCHISEL_SMS_SENDING, times, DIALCHISEL_RULES), DIALCHISEL_DONE, 0);
+    is("no time", times[7] == 0);
+    is("why changes nothing", memcmp(before, state, sizeof before) == 0);
 }
 
 /* AT lines, a limit, the counter file. */
@@ -95,6 +118,7 @@ static void bytes(void)
     same("silence, NFM off", dialchisel_silent(state, count, 1201, DIALCHISEL_SMS), DIALCHISEL_AS_3GPP, 0);
     same("second SMS", dialchisel_request(state, count, 1202, DIALCHISEL_SMS_SENDING), DIALCHISEL_DONE, 0);
     same("granted", dialchisel_granted(state, count, 1203, DIALCHISEL_SMS), DIALCHISEL_DONE, 0);
+    reasons();
     same("third SMS", dialchisel_request(state, count, 4799, DIALCHISEL_SMS_SENDING), DIALCHISEL_BLOCKED_S1, 0);
     same("in the next hour", dialchisel_request(state, count, 4800, DIALCHISEL_SMS_SENDING), DIALCHISEL_DONE, 0);
 

@@ -1,8 +1,8 @@
-//! A Rust program on the safe wrapper: document 01's printed example, refusals, an AT line, the counter file, a state that is saved and
-//! brought back. It ends in failure at the first surprise.
+//! A Rust program on the safe wrapper: document 01's printed example, refusals, why the gate says no, an AT line, the counter file, a state
+//! that is saved and brought back. It ends in failure on any surprise.
 mod gate;
 
-use gate::{Advice, Block, Gate, Refusal, Request, Service, Settings, Verdict};
+use gate::{Advice, Block, Gate, Refusal, Request, Rule, Service, Settings, Verdict};
 use std::process::ExitCode;
 
 /// Notes each surprise and how many things were looked at.
@@ -63,8 +63,22 @@ fn others(seen: &mut Seen, gate: &mut Gate) {
         seen.same("silence", gate.silent(2000, service), Verdict::Advice(Advice::BackedOff(89)));
     }
     seen.same("reset", gate.request(2000, Request::ModuleReset), done);
+    why(seen, gate);
     seen.same("third SMS of two", gate.request(5599, Request::Sms), Verdict::Blocked(Block::S1));
     seen.same("in the next hour", gate.request(5600, Request::Sms), done);
+}
+
+/// Why the gate says no, asked before the request: after two SMS at 2000 and a silence, the back-off and S1 = 2, then S1 alone.
+fn why(seen: &mut Seen, gate: &Gate) {
+    let soon = gate.why(2001, Request::Sms);
+    seen.same("rules", soon.map(|why| (why.count(), why.first())), Ok((2, Some(Rule::BackOff))));
+    seen.same("S1 too", soon.map(|why| why.stands(Rule::S1)), Ok(true));
+    seen.same("no time for the back-off", soon.map(|why| why.leaves(Rule::BackOff)), Ok(None));
+    let late = gate.why(5599, Request::Sms);
+    seen.same("rules, in an hour", late.map(|why| (why.count(), why.first())), Ok((1, Some(Rule::S1))));
+    seen.same("the first SMS has to leave", late.map(|why| why.leaves(Rule::S1)), Ok(Some(2000)));
+    seen.same("no rule", gate.why(5600, Request::Sms).map(|why| (why.count(), why.first())), Ok((0, None)));
+    seen.same("PDP is not up", gate.why(5600, Request::PdpDeactivation), Err(Verdict::Refused(Refusal::Standing)));
 }
 
 /// An AT line and the counter file.
