@@ -1,7 +1,6 @@
 pub mod Reading
 pub mod Letters
 pub mod Rows
-pub mod Printing
 pub mod Doing
 pub mod Staying
 pub mod OneResult

@@ -11,8 +11,8 @@ use Rattle.buffer.specs.Segments.{paste}
 use Rattle.opening.specs.Open.{openAnswer, openAfter}
 use Rattle.clock.specs.Call.{callAnswer, callAfter}
 use Rattle.text.specs.Number.{num}
-use Rattle.text.specs.Printed.{printNum}
-use Rattle.lines.specs.Trace.{Said, opens, calls, wrong, saidBy, space, highest, begins, ended, field, ifNumber}
+use Rattle.text.specs.Printed.{printTwo}
+use Rattle.lines.specs.Trace.{Said, opens, calls, wrong, saidBy, highest, begins, ended, field, ifNumber}
 use Rattle.lines.specs.declared.Reply.{Reply}
 use Rattle.lines.specs.declared.Reply.the-variants as R
 
@@ -39,7 +39,7 @@ pub record Done (b : List ℕ) (w : Said) (r : Reply) (x : List ℕ) : Type 0 wh
 
 -- two numbers with a space between, and LF
 abbrev pub printedTwo : Answer → List ℕ
-printedTwo a = printNum (a .number) ++ (space ∷ (printNum (a .second) ++ (10 ∷ [])))
+printedTwo a = printTwo (a .number) (a .second)
 
 -- ERR and LF
 abbrev pub printedWrong : List ℕ

@@ -326,11 +326,7 @@ fn two(out: &mut [u8], a: Answer) -> usize
     ensures { λ r. ⌜ (now (out .exit) ≡ paste (now (out .entry)) 0 (printedTwo a)) × (r ≡ length (printedTwo a)) ⌝ }
     ensures { λ r. ⌜ r ≤ 22 ⌝ }
 {
-    let n = text::put(out, 0, a.number);
-    out[n] = b' ';
-    let m = text::put(out, n + 1, a.second);
-    out[m] = b'\n';
-    m + 1
+    text::put_two(out, 0, a.number, a.second)
 }
 
 // ERR and LF.

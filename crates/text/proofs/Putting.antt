@@ -5,8 +5,8 @@ use mathlib.Core.List.{List, [], _∷_, _++_}
 use native.Mathlib.Omega.{arith}
 use lib.ListN.{length, set, length-append}
 use lib.Seq.{sets}
-use Rattle.text.specs.Printed.{printNum}
-use Rattle.text.proofs.Printed.{dec-one, dec-many, dec-stable}
+use Rattle.text.specs.Printed.{printNum, printTwo}
+use Rattle.text.proofs.Printed.{dec-one, dec-many, dec-stable, dec-short}
 
 -- more bytes, after those stored
 pub sets-append : (l : List ℕ) (i : ℕ) (xs ys : List ℕ) → sets l i (xs ++ ys) ≡ sets (sets l i xs) (i + length xs) ys
@@ -34,3 +34,21 @@ module _ (n : ℕ) where
 
     pub put-many : 10 ≤ n → n < 10 ^ 20 → set (sets l i (printNum (n / 10))) (i + length (printNum (n / 10))) (48 + n % 10) ≡ sets l i (printNum n)
     put-many h k = sym (sets-append l i (printNum (n / 10)) ((48 + n % 10) ∷ [])) ∙ ap (sets l i) (sym (print-many h k))
+
+-- no number of 32 bits has more than ten digits
+pub ten-digits : (n : ℕ) → n < 2 ^ 32 → length (printNum n) ≤ 10
+ten-digits n h = dec-short 20 10 n (omega arith) (omega arith)
+
+-- one number, a space, another, and LF
+module _ (n m : ℕ) where
+  pub length-two : length (printTwo n m) ≡ length (printNum n) + 1 + length (printNum m) + 1
+  length-two = simp length-append (omega arith)
+
+  pub put-two : (l : List ℕ) (i j k : ℕ) → j ≡ i + length (printNum n) → k ≡ j + 1 + length (printNum m)
+      → set (sets (set (sets l i (printNum n)) j 32) (j + 1) (printNum m)) k 10 ≡ sets l i (printTwo n m)
+  put-two l i j k p q =
+      let u = printNum n in
+      let v = printNum m in
+      let e : j + 1 ≡ suc (i + length u) = omega arith in
+      let f : k ≡ suc (i + length u) + length v = omega arith in
+      rw (e, f, p) (sym (sets-append (set (sets l i u) (i + length u) 32) (suc (i + length u)) v (10 ∷ [])) ∙ sym (sets-append l i u (32 ∷ (v ++ (10 ∷ [])))))

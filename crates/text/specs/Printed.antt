@@ -15,6 +15,10 @@ dec (suc k) n = let r = dec k (n / 10) in cond (ltb n 10) ((48 + n) ∷ []) (r +
 abbrev pub printNum : ℕ → List ℕ
 printNum n = dec 20 n
 
+-- two numbers with a space between, and LF
+abbrev pub printTwo : ℕ → ℕ → List ℕ
+printTwo n m = printNum n ++ (32 ∷ (printNum m ++ (10 ∷ [])))
+
 -- no digit stands first
 abbrev pub Stops : List ℕ → Type 0
 Stops [] = Unit {0}

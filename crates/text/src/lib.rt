@@ -3,7 +3,7 @@ ghost use mathlib.Core.Path.{_≡_};
 ghost use Prim.Native.Nat.{_+_, _≤_};
 ghost use lib.ListN.{length, drop};
 ghost use lib.Seq.{sets};
-ghost use Rattle.text.specs.Printed.{printNum};
+ghost use Rattle.text.specs.Printed.{printNum, printTwo};
 ghost use Rattle.text.specs.Number.{digitOf, num, partOf, placeOf, valueOf};
 
 // A number and the place after it, or nothing.
@@ -73,4 +73,17 @@ pub fn put(out: &mut [u8], at: usize, n: u32) -> usize
     let next = put(out, at, n / 10);
     out[next] = 48 + (n % 10) as u8;
     next + 1
+}
+
+// Writes two numbers with a space between, and LF, from a place on, and answers the place after them: at most 22 bytes.
+pub fn put_two(out: &mut [u8], at: usize, n: u32, m: u32) -> usize
+    requires { ⌜ at + 22 ≤ length (now out) ⌝ }
+    ensures { λ r. ⌜ (now (out .exit) ≡ sets (now (out .entry)) at (printTwo n m)) × (r ≡ at + length (printTwo n m)) ⌝ }
+    ensures { λ r. ⌜ r ≤ at + 22 ⌝ }
+{
+    let next = put(out, at, n);
+    out[next] = b' ';
+    let last = put(out, next + 1, m);
+    out[last] = b'\n';
+    last + 1
 }
