@@ -25,7 +25,8 @@ struct Found {
     time: u32,
 }
 
-const NUMBERS: [u32; 8] = [10, 11, 13, 14, 15, 16, 17, 18];
+// The rules by document 01's number, in its order: bit i of the bits is the i-th.
+pub const NUMBERS: [u32; 8] = [10, 11, 13, 14, 15, 16, 17, 18];
 
 // A request that is refused: its number, and no rules.
 fn refused(n: u32) -> Why

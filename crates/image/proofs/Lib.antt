@@ -1,0 +1,2 @@
+pub mod Imaging
+pub mod Returns
