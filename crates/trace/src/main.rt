@@ -1,7 +1,9 @@
 // The trace program: reads trace lines from standard input and writes the answer to each to standard output. Before any `O` the buffer is all 0.
 //
 // A line may stand across reads; the last one may lack its LF. What waits is written before the next read, so that one who types lines sees
-// the answers. The memory used does not grow with the input.
+// the answers. The memory used does not grow with the input. With `--state FILE` the buffer after the last line is written to FILE: 1,330 numbers of
+// four bytes, the lowest first.
+use libc::STDERR_FILENO;
 use libc::STDIN_FILENO;
 use libc::STDOUT_FILENO;
 ghost use Prim.Native.Nat.{_+_, _-_, _≤_, _<_};
@@ -260,9 +262,92 @@ fn run(state: &mut [u32], buf: &mut [u8], out: &mut [u8])
     }
 }
 
+// The file could not be written: it is told why, and what was begun is taken away.
+fn spoiled(name: &[u8]) {
+    os::fail(name);
+    os::unlink(name);
+}
+
+// The new file gets the name of the first n bytes of its own.
+fn give(name: &[u8], n: usize)
+    requires { ⌜ n ≤ length (now name) ⌝ }
+{
+    if os::rename(name, &name[..n]) < 0 {
+        spoiled(name);
+    }
+}
+
+// Writes the buffer to a new file, and then gives it the name of the first n bytes of its own.
+fn store(state: &[u32], name: &[u8], n: usize)
+    requires { ⌜ length (now state) ≡ 1330 ⌝ }
+    requires { ⌜ n ≤ length (now name) ⌝ }
+{
+    let fd = os::create(name);
+    if fd < 0 {
+        os::fail(name);
+        return;
+    }
+    let mut bytes = [0u8; 5320];
+    image::write(state, &mut bytes);
+    if !io::write_all(fd, &bytes) {
+        spoiled(name);
+        return;
+    }
+    if libc::fsync(fd) < 0 {
+        spoiled(name);
+        return;
+    }
+    libc::close(fd);
+    give(name, n);
+}
+
+// Writes the buffer to the file that argument 2 names, by way of a new one beside it, FILE.new.
+fn save(state: &[u32])
+    requires { ⌜ length (now state) ≡ 1330 ⌝ }
+{
+    let mut name = io::buffer();
+    let n = os::arg(2, &mut name);
+    if os::errno() != 0 {
+        os::fail(b"trace: FILE");
+        return;
+    }
+    if n > 4090 {
+        io::write_all(STDERR_FILENO, b"trace: FILE: the name is too long\n");
+        return;
+    }
+    name[n] = b'.';
+    name[n + 1] = b'n';
+    name[n + 2] = b'e';
+    name[n + 3] = b'w';
+    let m = n + 4;
+    store(state, &name[..m], n);
+}
+
+// Whether argument 1 is `--state`, with one more after it.
+fn saves() -> bool {
+    let mut word = [0u8; 7];
+    let n = os::arg(1, &mut word);
+    let whole = (os::errno() == 0) & (n == 7);
+    let dashes = (word[0] == b'-') & (word[1] == b'-');
+    let name = (word[2] == b's')
+        & (word[3] == b't')
+        & (word[4] == b'a')
+        & (word[5] == b't')
+        & (word[6] == b'e');
+    whole & dashes & name & (os::arg_count() == 3)
+}
+
 fn main() {
+    let keep = saves();
+    if !keep & (os::arg_count() > 1) {
+        io::write_all(STDERR_FILENO, b"trace [--state FILE]\n");
+        return;
+    }
     let mut state = [0u32; 1330];
     let mut buf = [0u8; 65536];
     let mut out = [0u8; 65536];
     run(&mut state, &mut buf, &mut out);
+    if keep {
+        save(&state);
+    }
 }
