@@ -1,5 +1,6 @@
 -- `reasons::look` meets its contract. Assumes nothing.
 use mathlib.Core.Path.{sym, _∙_}
+use native.Mathlib.Omega.{arith}
 use borrow.Author.Tests.{not-true, not-false}
 use Rattle.buffer.specs.Layout.{row}
 use Rattle.reasons.proofs.Alone.{blocks-enough, row-leaving}
@@ -23,8 +24,10 @@ returns c =
 from-newest-requires : tie.Need-from-newest-requires
 from-newest-requires c κs =
     let x = c .before .before .before .before in
-    let r = c .before .before .limit .result in
-    (row-stands (x .args .s .now) (x .args .t) (x .args .q) (x .args .i) (c .before .before .limit .result) (c .before .before .limit .ensures) (x .pre .1 .0), blocks-enough (r .applies) (r .most) (x .args .t) (row (x .args .s .now) (r .list)) (sym (c .before .blocks2 .ensures) ∙ not-false (c .before .blocks2 .result) (c .if1 .left)))
+    let l = c .before .before .limit in
+    let r = l .result in
+    let f = blocks-enough (r .applies) (r .most) (x .args .t) (row (x .args .s .now) (r .list)) (sym (c .before .blocks2 .ensures) ∙ not-false (c .before .blocks2 .result) (c .if1 .left)) in
+    (row-stands (x .args .s .now) (x .args .t) (x .args .q) (x .args .i) r (l .ensures) (x .pre .1 .0), (omega (arith, f .0), omega (arith, f .0, f .1)))
 
 returns-2 : tie.Need-returns-2
 returns-2 c =
