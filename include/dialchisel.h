@@ -139,7 +139,7 @@ struct dialchisel_answer dialchisel_request(uint32_t *state, size_t state_count,
  *   second  the bits (enum dialchisel_rule_bit) of all rules that stand: of each one that, taken alone, would block
  *   times   for the limit of bit i, times[i] is the permit time that has to leave the hour before that limit permits, which it does 3,600 s
  *           after it: with a limit of L, the time L places from the newest on the limit's list, the newest counted as one. For the
- *           back-off and for a rule that does not stand it is 0
+ *           back-off and for a rule that does not stand it is 0; a permit of time 0 is 0 too, and its bit tells that it stands
  * Answers 0 or 10 to 18, or refuses with 1 to 4 as dialchisel_request would, and with 1 where the room is not of 8 numbers; second is 0
  * then. `times` is written, whole, only where the number is 0 or 10 and up. */
 struct dialchisel_answer dialchisel_why(const uint32_t *state, size_t state_count, uint32_t time, uint32_t kind,
