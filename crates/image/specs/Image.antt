@@ -1,5 +1,4 @@
 -- A buffer as bytes: each number as four, the lowest first. Assumes nothing.
-use mathlib.Core.Path.{_≡_}
 use mathlib.Core.List.{List, [], _∷_, _++_}
 use Prim.Native.Nat.{ℕ, _+_, _*_, _/_, _%_, _<_, _^_}
 

@@ -9,7 +9,6 @@ use lib.Dec.{lit<, lit≤, leb, ltb, eqb}
 use lib.Count.{ones, trailingZeros}
 use lib.ListN.{length, getD, List·getD-map}
 use borrow.Author.Tests.{le-ltb, leb-true, ltb-true, ltb-false, eq-eqb, ne-eqb}
-use Rattle.rules.specs.declared.Answer.{Answer}
 use Rattle.rules.specs.Calls.{timed, ask, answer}
 use Rattle.rules.specs.Tables.{attach, inHour, fromNewest}
 use Rattle.rules.specs.Rules.{State, Limit, limit, limits, blocks, firstBlock, stands, refusal, runs, verdict, ruling, idle}

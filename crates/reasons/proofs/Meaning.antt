@@ -1,17 +1,16 @@
 -- What is said of a request is what is meant, and agrees with the gate's own answer; and it is one thing only. Assumes nothing.
 use mathlib.Core.Path.{_≡_, refl, sym, ap, _∙_}
 use mathlib.Core.Bool.{Bool, true, false, cond}
-use mathlib.Core.List.{List, map}
+use mathlib.Core.List.{List}
 use mathlib.Core.Logic.{_⊎_, inl, inr}
 use Prim.Native.Nat.{ℕ, suc, _+_, _≤_, _<_}
-use native.Mathlib.Omega.{arith}
 use native.Mathlib.Numerals.{add-one}
 use lib.Dec.{lit≤, eqb}
-use lib.ListN.{length, getD, List·getD-map}
+use lib.ListN.{getD, List·getD-map}
 use Rattle.rules.specs.declared.Answer.{Answer}
 use Rattle.rules.specs.Calls.{timed, ask, answer}
-use Rattle.rules.specs.Tables.{Kind, attach, fromNewest}
-use Rattle.rules.specs.Rules.{State, Limit, limit, limits, blocks, refusal, verdict, ruling}
+use Rattle.rules.specs.Tables.{Kind, attach}
+use Rattle.rules.specs.Rules.{State, Limit, limit, limits, blocks, refusal, ruling}
 use Rattle.rules.proofs.Checks.{on-time}
 use Rattle.rules.proofs.Newest.{Rising, rising-more}
 use Rattle.buffer.specs.Layout.{factsOf, view}

@@ -4,7 +4,7 @@ use mathlib.Core.List.{List}
 use mathlib.Core.Logic.{_≢_}
 use Prim.Native.Nat.{ℕ}
 use lib.ListN.{length}
-use borrow.Author.Tests.{eq-eqb, ne-eqb}
+use borrow.Author.Tests.{ne-eqb}
 use Rattle.rules.specs.Calls.{answer}
 use Rattle.reasons.specs.declared.said.Why.{Why}
 use Rattle.reasons.specs.Why.{whyOf, roomRefusal, RoomSays}

@@ -8,7 +8,7 @@ use lib.ListN.{length, getD, drop}
 use lib.Count.{ones, trailingZeros}
 use Rattle.rules.specs.Calls.{timed, ask}
 use Rattle.rules.specs.Tables.{within, inHour, fromNewest}
-use Rattle.rules.specs.Rules.{State, Limit, ruling}
+use Rattle.rules.specs.Rules.{State, ruling}
 use Rattle.request.specs.Request.{limitAt}
 use Rattle.reasons.specs.declared.said.Why.{Why}
 use Rattle.reasons.specs.Why.{alone, against, rules, bit, bitAt}

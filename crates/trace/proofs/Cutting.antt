@@ -1,20 +1,22 @@
 -- The input cut into lines, one byte after the other. Assumes nothing.
 use mathlib.Core.Path.{_≡_, refl, sym, ap, _∙_}
-use mathlib.Core.Bool.{Bool, false}
+use mathlib.Core.Bool.{Bool, true, false, cond, not, _&&_}
 use mathlib.Core.List.{List, [], _∷_, _++_, append-assoc}
 use mathlib.Core.Logic.{_≢_}
 use Prim.Native.Nat.{ℕ, zero, suc, _+_, _-_, _≤_, _<_}
 use native.Mathlib.Omega.{arith}
 use native.Mathlib.Numerals.{add-one}
-use lib.ListN.{length, getD, take, drop, set, length-take, length-drop}
+use lib.ListN.{length, getD, take, drop, set, length-take, length-drop, length-append}
 use lib.Seq.{take-suc-set, drop-set-lt, drop-drop, getD-drop, take-nil, slice, slice-empty, slice-cons, take-suc, drop-append-le, length-take-le, take-append-add, take-append-seam}
+use lib.Dec.{eqb}
 use borrow.Author.Tests.{eq-eqb, ne-eqb, le-leb}
 use Rattle.buffer.specs.Segments.{paste}
-use Rattle.lines.specs.Trace.{saidBy}
+use Rattle.lines.specs.Trace.{saidBy, longest, ended}
+use Rattle.lines.proofs.Doing.{said-long}
 use Rattle.lines.specs.Line.{leftBy, printOf, roomFor, LineSays}
 use Rattle.trace.specs.declared.Left.{Left}
 use Rattle.trace.specs.Through.{linePrints, lineLeaves, prints, leaves}
-use Rattle.trace.specs.Cut.{begun, Cut}
+use Rattle.trace.specs.Cut.{begun, Cut, Kept}
 
 -- ---- A part of the output, written at its front
 
@@ -78,7 +80,7 @@ module _ (buf : List ℕ) (end : ℕ) (p : Left) (b out : List ℕ) (h : p .«st
   goes-on n known sent =
       let e = slice-cons (p .place) end buf 0 k l in
       let m = slice-more (p .«start») (p .place) buf h (omega arith) in
-      record { printed = rw (e, ne-eqb byte 10 n, m, add-one); left = rw (e, ne-eqb byte 10 n, m, add-one) }
+      record { printed = λ later. rw (e, ne-eqb byte 10 n, m, add-one); left = λ later. rw (e, ne-eqb byte 10 n, m, add-one) }
 
   -- LF: the line is answered
   pub ends-line : byte ≡ 10 → (fill : ℕ) (known sent : Bool) (line x y : List ℕ) → line ≡ begun buf p
@@ -89,17 +91,17 @@ module _ (buf : List ℕ) (end : ℕ) (p : Left) (b out : List ℕ) (h : p .«st
       let e = slice-cons (p .place) end buf 0 k l in
       let z = slice-empty (p .place + 1) buf in
       record {
-        printed = rw (e, eq-eqb byte 10 n, z, w, d, g, add-one) (append-assoc (take (p .«fill») out) (linePrints (p .skip) (begun buf p) b) _);
-        left = rw (e, eq-eqb byte 10 n, z, d, g, add-one);
+        printed = λ later. rw (e, eq-eqb byte 10 n, z, w, d, g, add-one) (append-assoc (take (p .«fill») out) (linePrints (p .skip) (begun buf p) b) _);
+        left = λ later. rw (e, eq-eqb byte 10 n, z, d, g, add-one);
       }
 
 -- nothing cut
 pub cut-none : {buf : List ℕ} {end : ℕ} {p : Left} {b out : List ℕ} → Cut buf end p b out p b out
-cut-none = record { printed = refl; left = refl }
+cut-none = record { printed = λ later. refl; left = λ later. refl }
 
 -- one cut after another
 pub cut-on : {buf : List ℕ} {end : ℕ} {p q r : Left} {b out x y x′ y′ : List ℕ} → Cut buf end p b out q x y → Cut buf end q x y r x′ y′ → Cut buf end p b out r x′ y′
-cut-on s t = record { printed = t .printed ∙ s .printed; left = t .left ∙ s .left }
+cut-on s t = record { printed = λ later. t .printed later ∙ s .printed later; left = λ later. t .left later ∙ s .left later }
 
 -- ---- Bytes moved to the front
 
@@ -120,3 +122,79 @@ module _ (old new : List ℕ) (f i : ℕ) (h : f ≤ i) (k : i < length new) (n 
 
   pub moved-rest : drop (i + 1) (set new (i - f) (getD new i 0)) ≡ drop (i + 1) old
   moved-rest = drop-set-lt (i + 1) new (i - f) (getD new i 0) (omega arith) ∙ (sym (drop-drop 1 i new) ∙ (ap (drop 1) s ∙ drop-drop 1 i old))
+
+-- ---- What is kept of a line that has begun
+
+-- the bytes of a line that is passed over do not count
+skip-prints : (later u v b : List ℕ) → prints true u later b ≡ prints true v later b
+unfolding prints
+skip-prints [] u v b = never (ended u) ∙ sym (never (ended v))
+  where
+    never : (x : Bool) → cond (x && false) [] (linePrints true u b) ≡ linePrints true u b
+    never true = refl
+    never false = refl
+skip-prints (x ∷ l) u v b = ap (λ (r : List ℕ). cond (eqb x 10) (linePrints true u b ++ prints false [] l b) r) (skip-prints l (u ++ (x ∷ [])) (v ++ (x ∷ [])) b)
+
+skip-leaves : (later u v b : List ℕ) → leaves true u later b ≡ leaves true v later b
+unfolding leaves
+skip-leaves [] u v b = never (ended u) ∙ sym (never (ended v))
+  where
+    never : (x : Bool) → cond (x && false) b (lineLeaves true u b) ≡ b
+    never true = refl
+    never false = refl
+skip-leaves (x ∷ l) u v b = ap (λ (r : List ℕ). cond (eqb x 10) (leaves false [] l b) r) (skip-leaves l (u ++ (x ∷ [])) (v ++ (x ∷ [])) b)
+
+-- a line of over 256 bytes may be passed over: it is ERR whatever follows in it
+module _ (line b : List ℕ) (h : longest < length line) where
+  long-prints : linePrints true [] b ≡ linePrints false line b
+  unfolding printOf
+  long-prints = rw (said-long line h)
+
+  long-leaves : lineLeaves true [] b ≡ lineLeaves false line b
+  long-leaves = rw (said-long line h)
+
+begun-long : (line : List ℕ) → longest < length line → ended line ≡ false
+unfolding ended
+begun-long [] h = absurd (omega arith)
+begun-long (x ∷ l) h = refl
+
+over-prints : (later line b : List ℕ) → longest < length line → prints true [] later b ≡ prints false line later b
+unfolding prints ended
+over-prints [] line b h = rw (begun-long line h) (long-prints line b h)
+over-prints (x ∷ l) line b h =
+    let on : prints true (x ∷ []) l b ≡ prints false (line ++ (x ∷ [])) l b = skip-prints l (x ∷ []) [] b ∙ over-prints l (line ++ (x ∷ [])) b (simp length-append (omega arith)) in
+    λ i. cond (eqb x 10) (long-prints line b h i ++ prints false [] l (long-leaves line b h i)) (on i)
+
+over-leaves : (later line b : List ℕ) → longest < length line → leaves true [] later b ≡ leaves false line later b
+unfolding leaves ended
+over-leaves [] line b h = rw (begun-long line h) (long-leaves line b h)
+over-leaves (x ∷ l) line b h =
+    let on : leaves true (x ∷ []) l b ≡ leaves false (line ++ (x ∷ [])) l b = skip-leaves l (x ∷ []) [] b ∙ over-leaves l (line ++ (x ∷ [])) b (simp length-append (omega arith)) in
+    λ i. cond (eqb x 10) (leaves false [] l (long-leaves line b h i)) (on i)
+
+module _ (buf : List ℕ) (p : Left) (y : List ℕ) where
+  pub kept-skipped : p .skip ≡ true → Kept buf p true 0 y
+  kept-skipped e = record { prints-on = λ later b. rw e (skip-prints later [] (begun buf p) b); leaves-on = λ later b. rw e (skip-leaves later [] (begun buf p) b) }
+
+  pub kept-over : p .skip ≡ false → longest < length (begun buf p) → Kept buf p true 0 y
+  kept-over e h = record { prints-on = λ later b. rw e (over-prints later (begun buf p) b h); leaves-on = λ later b. rw e (over-leaves later (begun buf p) b h) }
+
+  pub kept-line : p .skip ≡ false → (k : ℕ) → take k y ≡ begun buf p → Kept buf p false k y
+  kept-line e k h = record { prints-on = λ later b. rw (e, h); leaves-on = λ later b. rw (e, h) }
+
+-- no line has begun just where none of its bytes is held
+pub ended-none : (k : ℕ) (l : List ℕ) → k ≤ length l → ended (take k l) ≡ eqb k 0
+unfolding ended
+ended-none zero l h = refl
+ended-none (suc k) [] h = absurd (omega arith)
+ended-none (suc k) (x ∷ l) h = sym (ne-eqb (suc k) 0 (λ e. omega arith))
+
+-- the end of the input: no line has begun, or one has
+module _ (skip : Bool) (k : ℕ) (buf b : List ℕ) (h : k ≤ length buf) where
+  pub last-none : (eqb k 0 && not skip) ≡ true → (prints skip (take k buf) [] b ≡ []) × (leaves skip (take k buf) [] b ≡ b)
+  unfolding prints leaves
+  last-none e = (rw (ended-none k buf h, e), rw (ended-none k buf h, e))
+
+  pub last-line : (eqb k 0 && not skip) ≡ false → (prints skip (take k buf) [] b ≡ linePrints skip (take k buf) b) × (leaves skip (take k buf) [] b ≡ lineLeaves skip (take k buf) b)
+  unfolding prints leaves
+  last-line e = (rw (ended-none k buf h, e), rw (ended-none k buf h, e))

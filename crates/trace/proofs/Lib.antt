@@ -1,2 +1,3 @@
 pub mod Cutting
 pub mod Whole
+pub mod Turning

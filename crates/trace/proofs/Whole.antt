@@ -1,6 +1,6 @@
--- The input cut to its end: what waits is what the whole prints, and the buffer is what the whole leaves. Assumes nothing.
+-- The input cut to its end: what waits, and then whatever comes later, is what the whole prints; and so of the buffer. Assumes nothing.
 use mathlib.Core.Path.{_≡_, sym, ap, _∙_}
-use mathlib.Core.List.{List, [], _++_, append-nil}
+use mathlib.Core.List.{List, [], _++_}
 use lib.ListN.{take}
 use Prim.Native.Nat.{ℕ}
 use lib.Seq.{slice, slice-empty}
@@ -12,12 +12,8 @@ module _ {buf : List ℕ} {end : ℕ} {p q : Left} {b out x y : List ℕ} (s : C
   none-left : slice (q .place) end buf ≡ []
   none-left = ap (λ (k : ℕ). slice k end buf) h ∙ slice-empty end buf
 
-  pub whole-printed : waiting y q ≡ restPrints buf end p b
-  unfolding prints
-  whole-printed =
-      sym (append-nil (waiting y q))
-      ∙ (ap (λ (l : List ℕ). waiting y q ++ prints (q .skip) (begun buf q) l x) (sym none-left) ∙ (s .printed ∙ ap (λ (k : ℕ). take k out ++ restPrints buf end p b) z))
+  pub whole-printed : (later : List ℕ) → waiting y q ++ prints (q .skip) (begun buf q) later x ≡ restPrints buf end p b later
+  whole-printed later = ap (λ (l : List ℕ). waiting y q ++ prints (q .skip) (begun buf q) (l ++ later) x) (sym none-left) ∙ (s .printed later ∙ ap (λ (k : ℕ). take k out ++ restPrints buf end p b later) z)
 
-  pub whole-left : x ≡ restLeaves buf end p b
-  unfolding leaves
-  whole-left = ap (λ (l : List ℕ). leaves (q .skip) (begun buf q) l x) (sym none-left) ∙ s .left
+  pub whole-left : (later : List ℕ) → leaves (q .skip) (begun buf q) later x ≡ restLeaves buf end p b later
+  whole-left later = ap (λ (l : List ℕ). leaves (q .skip) (begun buf q) (l ++ later) x) (sym none-left) ∙ s .left later

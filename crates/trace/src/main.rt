@@ -8,20 +8,22 @@ use libc::STDIN_FILENO;
 use libc::STDOUT_FILENO;
 ghost use Prim.Native.Nat.{_+_, _-_, _≤_, _<_};
 ghost use mathlib.Core.Path.{_≡_};
-ghost use mathlib.Core.List.{_++_};
+ghost use mathlib.Core.Bool.{true, false};
+ghost use mathlib.Core.List.{[], _++_};
 ghost use lib.ListN.{length, take};
 ghost use lib.Seq.{slice};
 ghost use Rattle.trace.specs.Known.{Known};
-ghost use Rattle.trace.specs.Through.{linePrints, lineLeaves};
-ghost use Rattle.trace.specs.Cut.{Cut};
+ghost use Rattle.trace.specs.Through.{linePrints, lineLeaves, prints, leaves};
+ghost use Rattle.trace.specs.Cut.{Cut, Kept, Answered, Turned, Whole};
 
 // What is kept from one read to the next: how many bytes of an unfinished line stand at the front of the input, whether they are of a line
-// that is too long and is passed over to its LF, whether the buffer is known to be good, and whether to read on.
+// that is too long and is passed over to its LF, whether the buffer is known to be good, whether to read on, and whether all writes went well.
 struct Carry {
     held: usize,
     skip: bool,
     known: bool,
     more: bool,
+    sent: bool,
 }
 
 // How far the input is cut into lines: where the line that has begun starts, the place of the next byte, whether the line is too long and was
@@ -125,7 +127,8 @@ fn all(state: &mut [u32], buf: &[u8], end: usize, out: &mut [u8], c: Carry) -> L
     requires { ⌜ Known (c .known) (now state) ⌝ }
     requires { ⌜ length (now out) ≡ 65536 ⌝ }
     requires { ⌜ (c .held ≤ end) × (end ≤ length (now buf)) ⌝ }
-    ensures { λ r. ⌜ (r .«start» ≤ end) × Known (r .known) (now (state .exit)) ⌝ }
+    ensures { λ r. ⌜ (r .«start» ≤ r .place) × ((r .place ≤ end) × Known (r .known) (now (state .exit))) ⌝ }
+    ensures { λ r. ⌜ Answered (now (buf .entry)) end (c .skip) (c .held) (now (state .entry)) r (now (state .exit)) ⌝ }
 {
     let mut left = Left {
         start: 0,
@@ -172,34 +175,58 @@ fn take(buf: &mut [u8]) -> usize
     io::count(got, buf)
 }
 
-// The end of the input: an unfinished line is answered, and there is no more.
-fn last(state: &mut [u32], buf: &[u8], out: &mut [u8], c: Carry) -> Carry
+// What is kept of the line that has begun, at the front of the input: its bytes, or that it is too long.
+fn keep(buf: &mut [u8], p: Left) -> Carry
+    requires { ⌜ (p .«start» ≤ p .place) × (p .place ≤ length (now buf)) ⌝ }
+    ensures { λ r. ⌜ (r .held ≤ 256) × ((r .known ≡ p .known) × ((r .more ≡ p .sent) × (r .sent ≡ p .sent))) ⌝ }
+    ensures { λ r. ⌜ Kept (now (buf .entry)) p (r .skip) (r .held) (now (buf .exit)) ⌝ }
+{
+    let start = p.start;
+    let place = p.place;
+    let rest = place - start;
+    if p.skip {
+        return Carry {
+            held: 0,
+            skip: true,
+            known: p.known,
+            more: p.sent,
+            sent: p.sent,
+        };
+    }
+    if rest > 256 {
+        return Carry {
+            held: 0,
+            skip: true,
+            known: p.known,
+            more: p.sent,
+            sent: p.sent,
+        };
+    }
+    shift(buf, start, place);
+    Carry {
+        held: rest,
+        skip: false,
+        known: p.known,
+        more: p.sent,
+        sent: p.sent,
+    }
+}
+
+// The end of the input: a line that has begun is answered. How many bytes wait.
+fn finish(state: &mut [u32], buf: &[u8], out: &mut [u8], c: Carry) -> usize
     requires { ⌜ Known (c .known) (now state) ⌝ }
     requires { ⌜ length (now out) ≡ 65536 ⌝ }
     requires { ⌜ c .held ≤ length (now buf) ⌝ }
-    ensures { λ r. ⌜ (r .held ≤ 256) × Known (r .known) (now (state .exit)) ⌝ }
+    ensures { λ r. ⌜ (r ≤ 22) × (take r (now (out .exit)) ≡ prints (c .skip) (take (c .held) (now (buf .entry))) [] (now (state .entry))) ⌝ }
+    ensures { λ _. ⌜ now (state .exit) ≡ leaves (c .skip) (take (c .held) (now (buf .entry))) [] (now (state .entry)) ⌝ }
 {
     let held = c.held;
     let skip = c.skip;
-    if held == 0 {
-        if !skip {
-            return Carry {
-                held: 0,
-                skip: false,
-                known: false,
-                more: false,
-            };
-        }
+    if (held == 0) & !skip {
+        return 0;
     }
-    let told = one(state, &buf[0..held], out, 0, skip, c.known);
-    let fill = told.fill;
-    io::write_all(STDOUT_FILENO, &out[0..fill]);
-    Carry {
-        held: 0,
-        skip: false,
-        known: false,
-        more: false,
-    }
+    let told = one(state, &buf[..held], out, 0, skip, c.known);
+    told.fill
 }
 
 // Reads once, and answers the lines that came. It goes on until the input ends, or a read or a write fails.
@@ -209,45 +236,31 @@ fn turn(state: &mut [u32], buf: &mut [u8], out: &mut [u8], c: Carry) -> Carry
     requires { ⌜ length (now out) ≡ 65536 ⌝ }
     requires { ⌜ c .held ≤ 256 ⌝ }
     ensures { λ r. ⌜ (r .held ≤ 256) × Known (r .known) (now (state .exit)) ⌝ }
+    ensures { λ r. ⌜ Turned (c .skip) (c .held) (now (buf .entry)) (now (state .entry)) r (now (buf .exit)) (now (state .exit)) ⌝ }
 {
     let held = c.held;
     let n = take(&mut buf[held..]);
     if n == 0 {
-        return last(state, buf, out, c);
-    }
-    let end = held + n;
-    let left = all(state, buf, end, out, c);
-    let start = left.start;
-    let rest = end - start;
-    if left.skip {
+        let fill = finish(state, buf, out, c);
+        let sent = io::write_all(STDOUT_FILENO, &out[0..fill]);
         return Carry {
             held: 0,
-            skip: true,
-            known: left.known,
-            more: left.sent,
+            skip: false,
+            known: false,
+            more: false,
+            sent,
         };
     }
-    if rest > 256 {
-        return Carry {
-            held: 0,
-            skip: true,
-            known: left.known,
-            more: left.sent,
-        };
-    }
-    shift(buf, start, end);
-    Carry {
-        held: rest,
-        skip: false,
-        known: left.known,
-        more: left.sent,
-    }
+    let left = all(state, buf, held + n, out, c);
+    keep(buf, left)
 }
 
-// A proved loop has to end, and nothing says that the input does: so it counts its turns down from a number that no run uses up.
-fn run(state: &mut [u32], buf: &mut [u8], out: &mut [u8])
+// Answers the whole input; whether all of it was answered and written. The buffer is then what the bytes that were read leave. A proved loop has to
+// end, and nothing says that the input does: so it counts its turns down from a number that no run uses up.
+fn run(state: &mut [u32], buf: &mut [u8], out: &mut [u8]) -> bool
     requires { ⌜ length (now buf) ≡ 65536 ⌝ }
     requires { ⌜ length (now out) ≡ 65536 ⌝ }
+    ensures { λ r. ⌜ Whole r (now (state .entry)) (now (state .exit)) ⌝ }
 {
     let mut turns = u64::MAX;
     let mut c = Carry {
@@ -255,11 +268,13 @@ fn run(state: &mut [u32], buf: &mut [u8], out: &mut [u8])
         skip: false,
         known: false,
         more: true,
+        sent: true,
     };
     while turns > 0 && c.more {
         c = turn(state, buf, out, c);
         turns -= 1;
     }
+    !c.more & c.sent
 }
 
 // The file could not be written: it is told why, and what was begun is taken away.
@@ -346,8 +361,16 @@ fn main() {
     let mut state = [0u32; 1330];
     let mut buf = [0u8; 65536];
     let mut out = [0u8; 65536];
-    run(&mut state, &mut buf, &mut out);
-    if keep {
-        save(&state);
+    let whole = run(&mut state, &mut buf, &mut out);
+    if !keep {
+        return;
     }
+    if !whole {
+        io::write_all(
+            STDERR_FILENO,
+            b"trace: not all answers were written, and FILE is left as it was\n",
+        );
+        return;
+    }
+    save(&state);
 }

@@ -1,7 +1,6 @@
 -- `request::first_block` meets its contract: row after row, the first that blocks from there on is the first of all. Assumes nothing.
-use mathlib.Core.Path.{_≡_, refl, sym, ap, _∙_}
-use mathlib.Core.Bool.{true, false, cond}
-use Prim.Native.Nat.{ℕ, _+_, _-_, _≤_}
+use mathlib.Core.Path.{_≡_, refl, sym, _∙_}
+use Prim.Native.Nat.{_-_, _≤_}
 use lib.ListN.{drop}
 use native.Mathlib.Omega.{arith}
 use Rattle.rules.specs.Rules.{limits, blocks, firstBlock}
