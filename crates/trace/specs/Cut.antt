@@ -39,15 +39,17 @@ pub record Answered (buf : List ℕ) (end : ℕ) (skip : Bool) (held : ℕ) (b :
   pub left : (later : List ℕ) → restLeaves buf end q x later ≡ leaves skip (take held buf) (slice held end buf ++ later) b
   pub whole : q .sent ≡ true → q .place ≡ end
 
--- reading and answering, from the first `held` bytes of buf and the buffer b to what is kept, in y, and the buffer x
-pub record Turned (skip : Bool) (held : ℕ) (buf b : List ℕ) (r : Carry) (y x : List ℕ) : Type 0 where
-  -- the bytes that were read
-  pub read : List ℕ
+-- the bytes `read` came after the first `held` bytes of buf: from the buffer b to what is kept, in y, and the buffer x
+pub record Turned (skip : Bool) (held : ℕ) (buf read b : List ℕ) (r : Carry) (y x : List ℕ) : Type 0 where
   -- with more to come: whatever it is, all that is left is what the whole leaves
   pub goes-on : r .more ≡ true → (later : List ℕ) → leaves (r .skip) (take (r .held) y) later x ≡ leaves skip (take held buf) (read ++ later) b
   -- at the end of the input, where all was written
   pub ends : r .more ≡ false → r .sent ≡ true → x ≡ leaves skip (take held buf) read b
 
--- the whole input, where all of it was answered and written: the buffer x is what the bytes that were read leave of the buffer b
+-- so of some bytes: nothing says which ones a read brings
+abbrev pub SomeTurned : Bool → ℕ → (buf b : List ℕ) → Carry → (y x : List ℕ) → Type 0
+SomeTurned skip held buf b r y x = (read : List ℕ) × Turned skip held buf read b r y x
+
+-- the whole input, where all of it was answered and written: the buffer x is what some bytes leave of the buffer b
 abbrev pub Whole : Bool → (b x : List ℕ) → Type 0
 Whole r b x = r ≡ true → (read : List ℕ) × (x ≡ leaves false [] read b)

@@ -8,13 +8,14 @@ use libc::STDIN_FILENO;
 use libc::STDOUT_FILENO;
 ghost use Prim.Native.Nat.{_+_, _-_, _≤_, _<_};
 ghost use mathlib.Core.Path.{_≡_};
-ghost use mathlib.Core.Bool.{true, false};
+ghost use mathlib.Core.Bool.{not, _&&_};
 ghost use mathlib.Core.List.{[], _++_};
 ghost use lib.ListN.{length, take};
+ghost use lib.Dec.{eqb};
 ghost use lib.Seq.{slice};
 ghost use Rattle.trace.specs.Known.{Known};
 ghost use Rattle.trace.specs.Through.{linePrints, lineLeaves, prints, leaves};
-ghost use Rattle.trace.specs.Cut.{Cut, Kept, Answered, Turned, Whole};
+ghost use Rattle.trace.specs.Cut.{Cut, Kept, Answered, Turned, SomeTurned, Whole};
 
 // What is kept from one read to the next: how many bytes of an unfinished line stand at the front of the input, whether they are of a line
 // that is too long and is passed over to its LF, whether the buffer is known to be good, whether to read on, and whether all writes went well.
@@ -229,17 +230,16 @@ fn finish(state: &mut [u32], buf: &[u8], out: &mut [u8], c: Carry) -> usize
     told.fill
 }
 
-// Reads once, and answers the lines that came. It goes on until the input ends, or a read or a write fails.
-fn turn(state: &mut [u32], buf: &mut [u8], out: &mut [u8], c: Carry) -> Carry
+// Answers the lines of n bytes that came after those that are held; where none came the input has ended. It goes on while bytes come and all writes
+// go well.
+fn arrived(state: &mut [u32], buf: &mut [u8], n: usize, out: &mut [u8], c: Carry) -> Carry
     requires { ⌜ Known (c .known) (now state) ⌝ }
-    requires { ⌜ length (now buf) ≡ 65536 ⌝ }
+    requires { ⌜ c .held + n ≤ length (now buf) ⌝ }
     requires { ⌜ length (now out) ≡ 65536 ⌝ }
-    requires { ⌜ c .held ≤ 256 ⌝ }
     ensures { λ r. ⌜ (r .held ≤ 256) × Known (r .known) (now (state .exit)) ⌝ }
-    ensures { λ r. ⌜ Turned (c .skip) (c .held) (now (buf .entry)) (now (state .entry)) r (now (buf .exit)) (now (state .exit)) ⌝ }
+    ensures { λ r. ⌜ r .more ≡ (not (eqb n 0) && r .sent) ⌝ }
+    ensures { λ r. ⌜ Turned (c .skip) (c .held) (now (buf .entry)) (slice (c .held) (c .held + n) (now (buf .entry))) (now (state .entry)) r (now (buf .exit)) (now (state .exit)) ⌝ }
 {
-    let held = c.held;
-    let n = take(&mut buf[held..]);
     if n == 0 {
         let fill = finish(state, buf, out, c);
         let sent = io::write_all(STDOUT_FILENO, &out[0..fill]);
@@ -251,12 +251,26 @@ fn turn(state: &mut [u32], buf: &mut [u8], out: &mut [u8], c: Carry) -> Carry
             sent,
         };
     }
-    let left = all(state, buf, held + n, out, c);
+    let left = all(state, buf, c.held + n, out, c);
     keep(buf, left)
 }
 
-// Answers the whole input; whether all of it was answered and written. The buffer is then what the bytes that were read leave. A proved loop has to
-// end, and nothing says that the input does: so it counts its turns down from a number that no run uses up.
+// Reads once, and answers the lines that came.
+fn turn(state: &mut [u32], buf: &mut [u8], out: &mut [u8], c: Carry) -> Carry
+    requires { ⌜ Known (c .known) (now state) ⌝ }
+    requires { ⌜ length (now buf) ≡ 65536 ⌝ }
+    requires { ⌜ length (now out) ≡ 65536 ⌝ }
+    requires { ⌜ c .held ≤ 256 ⌝ }
+    ensures { λ r. ⌜ (r .held ≤ 256) × Known (r .known) (now (state .exit)) ⌝ }
+    ensures { λ r. ⌜ SomeTurned (c .skip) (c .held) (now (buf .entry)) (now (state .entry)) r (now (buf .exit)) (now (state .exit)) ⌝ }
+{
+    let held = c.held;
+    let n = take(&mut buf[held..]);
+    arrived(state, buf, n, out, c)
+}
+
+// Answers the whole input, one read after the other; whether all of it was answered and written. A proved loop has to end, and nothing says that the
+// input does: so it counts its turns down from a number that no run uses up.
 fn run(state: &mut [u32], buf: &mut [u8], out: &mut [u8]) -> bool
     requires { ⌜ length (now buf) ≡ 65536 ⌝ }
     requires { ⌜ length (now out) ≡ 65536 ⌝ }

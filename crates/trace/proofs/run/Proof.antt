@@ -9,14 +9,14 @@ use borrow.Author.Tests.{not-true}
 use Rattle.rules.proofs.Checks.{and-left, and-right}
 use Rattle.text.proofs.Choice.{absurd-bool}
 use Rattle.trace.specs.Known.{Known}
-use Rattle.trace.specs.Cut.{Turned}
+use Rattle.trace.specs.Cut.{SomeTurned}
 use Rattle.trace.proofs.Turning.{turned-none, turned-on}
 use borrow.Author.Needs.{needs}
 use Rattle.trace.proofs.run.Statement.{statement}
 use Rattle.trace.proofs.run.Tie as tie
 
 abbrev Inv-loop : tie.InvT-loop
-Inv-loop state₀ buf₀ out₀ turns₀ c₀ state buf out turns c = (length buf ≡ 65536) × ((length out ≡ 65536) × ((c .held ≤ 256) × ((length state ≡ length state₀) × (Known (c .known) state × Turned false 0 [] state₀ c buf state))))
+Inv-loop state₀ buf₀ out₀ turns₀ c₀ state buf out turns c = (length buf ≡ 65536) × ((length out ≡ 65536) × ((c .held ≤ 256) × ((length state ≡ length state₀) × (Known (c .known) state × SomeTurned false 0 [] state₀ c buf state))))
 
 abbrev μ-loop : tie.MeasureT-loop
 μ-loop state₀ buf₀ out₀ turns₀ c₀ state buf out turns c = turns
@@ -50,7 +50,7 @@ returns c = λ e.
     let l = c .before .before .before .loop in
     let t = l .inv .1 .1 .1 .1 .1 in
     let m = not-true (l .c .more) (and-left (not (l .c .more)) (l .c .sent) e) in
-    (t .read, t .ends m (and-right (not (l .c .more)) (l .c .sent) e))
+    (t .0, t .1 .ends m (and-right (not (l .c .more)) (l .c .sent) e))
 
 pub run-spec : {M : Type 1} → statement M
 run-spec =
