@@ -5,10 +5,13 @@
  *
  *     static uint32_t state[DIALCHISEL_STATE];
  *     static const uint32_t intervals[] = {60, 120, 240};
+ *     static const uint8_t own_params[DIALCHISEL_PARAMETER_FILE] = DIALCHISEL_RTC10;
+ *     static const uint8_t own_leaks[DIALCHISEL_LEAK_FILE] = {0};
  *     struct dialchisel_answer a;
  *
  *     a = dialchisel_open(state, DIALCHISEL_STATE, now(), imsi, intervals, 3, 1, 1, 0, 20,
- *                         params, DIALCHISEL_PARAMETER_FILE, leaks, DIALCHISEL_LEAK_FILE, counters, DIALCHISEL_COUNTER_FILE);
+ *                         params, params_count, leaks, leaks_count, counters, counters_count,
+ *                         own_params, DIALCHISEL_PARAMETER_FILE, own_leaks, DIALCHISEL_LEAK_FILE);
  *     ...
  *     a = dialchisel_request(state, DIALCHISEL_STATE, now(), DIALCHISEL_PDP_ACTIVATION);
  *     if (a.number == DIALCHISEL_DONE) {
@@ -54,6 +57,10 @@ extern "C" {
 #define DIALCHISEL_INTERVALS 10       /* at most, and at least one; each 1 to 65,535 s, none below the one before */
 #define DIALCHISEL_LATEST 4000000000u /* the latest time, in seconds */
 
+/* A parameter file of the module's own with RTC10's values, for an array of DIALCHISEL_PARAMETER_FILE bytes, which C fills up with zeros:
+ * N1 20; T1 60 minutes, in units of 6; F1 60, F2 30, F3 60, F4 30. */
+#define DIALCHISEL_RTC10 {20, 10, 60, 30, 60, 30}
+
 /* What a request asks for. Kinds 0 to 3 ask a service of the same number. */
 enum dialchisel_kind {
     DIALCHISEL_GSM_REGISTRATION = 0,
@@ -76,7 +83,7 @@ enum dialchisel_number {
     /* Refused: nothing changed. */
     DIALCHISEL_REFUSED_BUFFER = 1,    /* state not 1,330 numbers or damaged (opening asks the length only), AT room under 16, counter room
                                        * not 32, room of why not 8 */
-    DIALCHISEL_REFUSED_RANGE = 2,     /* service, kind, cause, flag or setting out of range; at opening, a bad card file */
+    DIALCHISEL_REFUSED_RANGE = 2,     /* service, kind, cause, flag or setting out of range; at opening, a bad file */
     DIALCHISEL_REFUSED_TIME = 3,      /* time below the last one or above 4,000,000,000; opening needs no earlier time */
     DIALCHISEL_REFUSED_STANDING = 4,  /* the service does not stand where the call needs it */
     DIALCHISEL_REFUSED_LINE = 5,      /* not an AT line of the four forms below */
@@ -120,14 +127,20 @@ struct dialchisel_answer {
  *   intervals 1 to 10 base intervals of the back-offs, in seconds
  *   nfm, rpm  0 or 1: are back-offs timed; do N1 and F1 to F4 apply
  *   a1, s1    attaches and SMS permitted in an hour, at most 255; 0 is no limit
- *   params, leaks, counters  the three card files as they were read; a limit of 0 is no limit, a leak rate of 0 no leak
- * Answers 0, or refuses with 1, 2 or 3. */
+ *   params, leaks, counters  the three card files as they were read; a limit of 0 is no limit, a leak rate of 0 no leak. A file that
+ *             the card lacks has the count 0
+ *   own_params, own_leaks    the module's own two files, always of their full size: each rules where the card lacks that one. Counters
+ *             that the card lacks begin at 0. Each file is taken by itself
+ * Answers 0, or refuses with 1, 2 or 3: with 2 also for a card file whose count is neither 0 nor the file's size, for a byte other than 0
+ * after those in use, and for a file of the module's own that is bad or empty, whether it rules or not. */
 struct dialchisel_answer dialchisel_open(uint32_t *state, size_t state_count, uint32_t time, uint64_t imsi,
                                          const uint32_t *intervals, size_t intervals_count,
                                          uint32_t nfm, uint32_t rpm, uint32_t a1, uint32_t s1,
                                          const uint8_t *params, size_t params_count,
                                          const uint8_t *leaks, size_t leaks_count,
-                                         const uint8_t *counters, size_t counters_count);
+                                         const uint8_t *counters, size_t counters_count,
+                                         const uint8_t *own_params, size_t own_params_count,
+                                         const uint8_t *own_leaks, size_t own_leaks_count);
 
 /* May a request of this kind go to the network now? Kinds 0 to 3 need their service idle and make it asked; 4 needs PDP up and makes it
  * idle; 5 fits always and makes all idle, but ends no back-off. Answers 0 (send it: it counts as sent), 10 to 18 (do not), or refuses

@@ -52,7 +52,7 @@ impl<T: Copy + PartialEq + Display> Lent<T> {
     }
 }
 
-/// What an opening is given.
+/// What an opening is given. The card lacks a file that has no bytes.
 #[derive(Clone, Debug)]
 pub struct Opening {
     pub time: u32,
@@ -65,6 +65,19 @@ pub struct Opening {
     pub params: Vec<u8>,
     pub leaks: Vec<u8>,
     pub counters: Vec<u8>,
+    pub own_params: Vec<u8>,
+    pub own_leaks: Vec<u8>,
+}
+
+impl Opening {
+    /// The five files, in the order of the call: three of the card, two of the module's own.
+    pub fn files(&self) -> [&[u8]; 5] {
+        [&self.params, &self.leaks, &self.counters, &self.own_params, &self.own_leaks]
+    }
+
+    pub fn set_file(&mut self, which: usize, bytes: Vec<u8>) {
+        *[&mut self.params, &mut self.leaks, &mut self.counters, &mut self.own_params, &mut self.own_leaks][which] = bytes;
+    }
 }
 
 /// A call with its arguments, all but the state.
@@ -115,22 +128,39 @@ impl Pair {
 /// The buffers that a call only reads, as they are lent to the library.
 struct Inputs {
     numbers: Lent<u32>,
-    bytes: [Lent<u8>; 3],
+    bytes: [Lent<u8>; 5],
 }
 
 impl Inputs {
     fn of(call: &Call, random: &mut Random) -> Inputs {
         let none: &[u8] = &[];
-        let (numbers, bytes): (&[u32], [&[u8]; 3]) = match call {
-            Call::Open(o) => (&o.intervals, [&o.params, &o.leaks, &o.counters]),
-            Call::Command { line, .. } => (&[], [line, none, none]),
-            _ => (&[], [none; 3]),
+        let (numbers, bytes): (&[u32], [&[u8]; 5]) = match call {
+            Call::Open(o) => (&o.intervals, o.files()),
+            Call::Command { line, .. } => (&[], [line, none, none, none, none]),
+            _ => (&[], [none; 5]),
         };
         // What lies beyond the end would be well read, if it were read.
         let numbers = Lent::new(numbers, 4, || random.pick(&[60, 65_535, 1]));
         let start = random.below(9) as usize;
         let bytes = bytes.map(|part| Lent::new(part, start, || random.pick(b"\r\r\r0015,?\0\0")));
         Inputs { numbers, bytes }
+    }
+
+    /// The pointers to the bytes and their counts; `odd` has a digit by three for each. Those with the same bytes are lent as one, which
+    /// the interface allows for const buffers.
+    fn lent(&mut self, mut odd: u64) -> [(*const u8, usize); 5] {
+        let mut lent = self.bytes.each_mut().map(|bytes| {
+            let pointer = bytes.pointer(odd);
+            odd /= 3;
+            (pointer as *const u8, bytes.count)
+        });
+        for second in 1..5 {
+            let same = |first: &usize| self.bytes[*first].part() == self.bytes[second].part();
+            if let (Some(first), false) = ((0..second).find(same), self.bytes[second].part().is_empty()) {
+                lent[second] = lent[first];
+            }
+        }
+        lent
     }
 }
 
@@ -155,17 +185,13 @@ impl Rooms {
     }
 }
 
-/// The library's answer. Two const buffers with the same bytes are lent as one, which the interface allows.
+/// The library's answer.
 fn by_library(state: &mut Lent<u32>, call: &Call, inputs: &mut Inputs, rooms: &mut Rooms, odd: u64) -> Answer {
     let (s, n) = (state.pointer(odd), state.count);
     let (out, out_count) = (rooms.bytes.pointer(odd), rooms.bytes.count);
     let (times, times_count) = (rooms.times.pointer(odd), rooms.times.count);
     let numbers = (inputs.numbers.pointer(odd) as *const u32, inputs.numbers.count);
-    let mut bytes = [0, 1, 2].map(|i| (inputs.bytes[i].pointer(odd) as *const u8, inputs.bytes[i].count));
-    if inputs.bytes[0].part() == inputs.bytes[2].part() {
-        bytes[2] = bytes[0];
-    }
-    let [first, second_file, third] = bytes;
+    let [first, leaks, counters, own_params, own_leaks] = inputs.lent(odd);
     let answer = unsafe {
         match *call {
             Call::Open(Opening { time, imsi, nfm, rpm, a1, s1, .. }) => c::dialchisel_open(
@@ -181,10 +207,14 @@ fn by_library(state: &mut Lent<u32>, call: &Call, inputs: &mut Inputs, rooms: &m
                 s1,
                 first.0,
                 first.1,
-                second_file.0,
-                second_file.1,
-                third.0,
-                third.1,
+                leaks.0,
+                leaks.1,
+                counters.0,
+                counters.1,
+                own_params.0,
+                own_params.1,
+                own_leaks.0,
+                own_leaks.1,
             ),
             Call::Request { time, kind } => c::dialchisel_request(s, n, time, kind),
             Call::Granted { time, service } => c::dialchisel_granted(s, n, time, service),
@@ -203,7 +233,11 @@ fn by_library(state: &mut Lent<u32>, call: &Call, inputs: &mut Inputs, rooms: &m
 /// The model's answer. `room` is for bytes, `times` for `why`.
 pub fn by_model(s: &mut [u32], call: &Call, room: &mut [u8], times: &mut [u32]) -> Answer {
     match call {
-        Call::Open(o) => model::open(s, o.time, o.imsi, &o.intervals, o.nfm, o.rpm, o.a1, o.s1, &o.params, &o.leaks, &o.counters),
+        Call::Open(o) => {
+            let [params, leaks, counters, own_params, own_leaks] = o.files();
+            let (time, imsi, nfm, rpm, a1, s1) = (o.time, o.imsi, o.nfm, o.rpm, o.a1, o.s1);
+            model::open(s, time, imsi, &o.intervals, nfm, rpm, a1, s1, params, leaks, counters, own_params, own_leaks)
+        }
         Call::Request { time, kind } => model::request(s, *time, *kind),
         Call::Granted { time, service } => model::granted(s, *time, *service),
         Call::Rejected { time, service, cause, second } => model::rejected(s, *time, *service, *cause, *second),
@@ -228,11 +262,20 @@ pub struct Bench {
     pub high: BTreeMap<u32, u64>,
     /// What `why` told. Its answers are counted there, and not above.
     pub reached: Reached,
+    /// Openings that were taken, by the files that the card lacked, and blocks by limits of the module's own file.
+    pub lacking: BTreeMap<&'static str, u64>,
+    pub own_blocks: BTreeMap<u32, u64>,
 }
 
 impl Bench {
     /// Makes one call on both, compares all there is, and gives back the answer.
     pub fn call(&mut self, pair: &mut Pair, call: &Call) -> Answer {
+        let odd = self.random.next();
+        self.call_odd(pair, call, odd)
+    }
+
+    /// The same, where `odd` says which pointers are lent for counts of 0.
+    pub fn call_odd(&mut self, pair: &mut Pair, call: &Call, odd: u64) -> Answer {
         self.calls += 1;
         *self.kinds.entry(call.name()).or_default() += 1;
         let lent = Rooms::of(call, &mut self.random);
@@ -241,7 +284,6 @@ impl Bench {
         let (numbers, files) = (inputs.numbers.clone(), inputs.bytes.clone());
         let full = full_lists(pair.model.part());
 
-        let odd = self.random.next();
         let library = by_library(&mut pair.library, call, &mut inputs, &mut library_rooms, odd);
         let model = by_model(pair.model.part_mut(), call, model_rooms.bytes.part_mut(), model_rooms.times.part_mut());
 
@@ -253,11 +295,10 @@ impl Bench {
             library_rooms.bytes.difference("room", &model_rooms.bytes),
             library_rooms.times.difference("times", &model_rooms.times),
             inputs.numbers.difference("intervals", &numbers),
-            inputs.bytes[0].difference("first bytes lent", &files[0]),
-            inputs.bytes[1].difference("second bytes lent", &files[1]),
-            inputs.bytes[2].difference("third bytes lent", &files[2]),
         ];
-        if let Some(difference) = differences.into_iter().flatten().next() {
+        let names = ["first bytes lent", "second bytes lent", "third bytes lent", "fourth bytes lent", "fifth bytes lent"];
+        let in_files = (0..5).map(|which| inputs.bytes[which].difference(names[which], &files[which]));
+        if let Some(difference) = differences.into_iter().chain(in_files).flatten().next() {
             self.fail(call, &difference);
         }
         if !(1..=5).contains(&model.0) && !good(pair.model.part()) {
@@ -268,6 +309,9 @@ impl Bench {
             return model;
         }
         *self.answers.entry(model.0).or_default() += 1;
+        if let (Call::Open(opening), 0) = (call, model.0) {
+            *self.lacking.entry(opening.lacking()).or_default() += 1;
+        }
         self.count_long(call, model, full, pair.model.part());
         model
     }
@@ -301,10 +345,15 @@ impl Bench {
         Pair::new(&mut self.random, state)
     }
 
+    /// A pair of so many places that hold anything.
+    pub fn rubbish(&mut self, places: usize) -> Pair {
+        let rubbish: Vec<u32> = (0..places).map(|_| self.random.next() as u32).collect();
+        self.pair(&rubbish)
+    }
+
     /// A pair that was opened so; whatever was in it before.
     pub fn opened(&mut self, opening: &Opening) -> Pair {
-        let rubbish: Vec<u32> = (0..PLACES).map(|_| self.random.next() as u32).collect();
-        let mut pair = self.pair(&rubbish);
+        let mut pair = self.rubbish(PLACES);
         self.expect(&mut pair, Call::Open(opening.clone()), (0, 0));
         pair
     }
@@ -312,8 +361,13 @@ impl Bench {
     /// A call whose answer the document gives.
     pub fn expect(&mut self, pair: &mut Pair, call: Call, answer: Answer) {
         let given = self.call(pair, &call);
+        self.agree(&call, given, answer);
+    }
+
+    /// The answer that both gave is the one that the document gives.
+    pub fn agree(&self, call: &Call, given: Answer, answer: Answer) {
         if given != answer {
-            self.fail(&call, &format!("answer: both {given:?}, the document {answer:?}"));
+            self.fail(call, &format!("answer: both {given:?}, the document {answer:?}"));
         }
     }
 }

@@ -1,8 +1,10 @@
 //! Compares the linked library with the model of document 01, call by call: both numbers, every place of the state and of every room, and
 //! a guard on either side of each buffer. SEED in the environment repeats a run; without it the clock gives the seed.
-//! It fails at the first difference, and at the end where an answer, a permit on a full list, a block by a limit of 254 or 255, or of
-//! `why` a number, a rule, two or three rules at once or an edge of the lists was met fewer than 100 times.
+//! It fails at the first difference, and at the end where an answer, a permit on a full list, a block by a limit of 254 or 255 or by one of
+//! the module's own file, an opening with some of the card's files and without the others, or of `why` a number, a rule, two or three
+//! rules at once or an edge of the lists was met fewer than 100 times.
 mod both;
+mod files;
 #[allow(dead_code)]
 #[path = "../link/gate.rs"]
 mod gate;
@@ -13,6 +15,7 @@ mod reasons;
 mod why;
 
 use both::{by_model, file, Bench, Call, Opening, Pair};
+use files::{LACKING, RPM_BLOCKS};
 use made::EDGES;
 use model::*;
 use random::Random;
@@ -27,7 +30,7 @@ const LEAST_EACH: u64 = 100;
 const LEAST_CALLS: u64 = 200_000;
 
 impl Bench {
-    /// An opening as the document's figures have it.
+    /// An opening as the document's figures have it. The module's own files, which do not rule here, have other bytes.
     fn classroom() -> Opening {
         Opening {
             time: 0,
@@ -40,6 +43,8 @@ impl Bench {
             params: file(32, &[]),
             leaks: file(6, &[]),
             counters: file(32, &[]),
+            own_params: gate::RTC10.to_vec(),
+            own_leaks: file(6, &[4, 5, 6]),
         }
     }
 
@@ -183,13 +188,14 @@ impl Bench {
         }
     }
 
-    /// An opening on any buffer, its state then asked once more.
-    fn try_opening(&mut self, opening: Opening) {
+    /// An opening on any buffer, its state then asked once more; the opening's answer.
+    fn try_opening(&mut self, opening: Opening) -> Answer {
         let state = self.good_state();
         let mut pair = self.pair(&state);
-        self.call(&mut pair, &Call::Open(opening));
+        let answer = self.call(&mut pair, &Call::Open(opening));
         let call = self.next_call(&state, false, 50);
         self.call(&mut pair, &call);
+        answer
     }
 
     /// Each number of an opening at its edges.
@@ -227,33 +233,6 @@ impl Bench {
         }
     }
 
-    /// Files of every length, and each byte of each file at its edges.
-    fn files(&mut self) {
-        let lengths: Vec<usize> = (0..=40).chain([255, 256, 262, 288, 65_542, 65_568]).collect();
-        for which in 0..3 {
-            let right = [32, 6, 32][which];
-            for &length in &lengths {
-                let bytes = vec![0; length];
-                self.try_file(which, bytes);
-            }
-            for at in 0..right {
-                for value in [1, 2, 127, 128, 254, 255] {
-                    let mut bytes = vec![0; right];
-                    bytes[at] = value;
-                    self.try_file(which, bytes);
-                }
-            }
-        }
-    }
-
-    fn try_file(&mut self, which: usize, bytes: Vec<u8>) {
-        let mut one = self.opening();
-        *[&mut one.params, &mut one.leaks, &mut one.counters][which] = bytes.clone();
-        self.try_opening(one.clone());
-        // The same beside a time out of range: 2 comes before 3.
-        self.try_opening(Opening { time: LATEST + 1, ..one });
-    }
-
     /// Short sequences on one opened buffer.
     fn short_sequences(&mut self) {
         for _ in 0..6_000 {
@@ -264,7 +243,7 @@ impl Bench {
     }
 
     /// Long sequences, with over 255 permits on each list and limits that only a full list can reach. F1, F2 and F3 take turns, alone, with
-    /// few grants and no back-offs; then all at once, every other time with F4.
+    /// few grants and no back-offs; then all at once, every other time with F4. In eight turns out of sixteen the card has no parameters.
     fn long_sequences(&mut self) {
         for turn in 0..32 {
             let mut opening = self.opening();
@@ -281,7 +260,10 @@ impl Bench {
             } else if turn % 8 == 3 {
                 (opening.rpm, limits[5]) = (1, self.random.pick(&[254, 255]));
             }
-            opening.params = file(32, &limits);
+            if turn / 8 % 2 == 1 {
+                opening.params.clear();
+            }
+            opening.set_file(opening.ruling(0), file(32, &limits));
             self.sequence(&opening, 10_000, true, grants);
         }
     }
@@ -290,7 +272,10 @@ impl Bench {
         let mut pair = self.opened(opening);
         for _ in 0..calls {
             let call = self.next_call(pair.model.part(), brisk, grants);
-            self.call(&mut pair, &call);
+            let (number, _) = self.call(&mut pair, &call);
+            if opening.params.is_empty() && RPM_BLOCKS.contains(&number) {
+                *self.own_blocks.entry(number).or_default() += 1;
+            }
         }
     }
 
@@ -370,7 +355,7 @@ impl Bench {
     /// A clock call that only damage can refuse, any call that the state before the damage would bring about, and now and then an opening.
     fn try_damaged(&mut self, before: &[u32], damaged: &[u32]) {
         let call = match self.random.below(20) {
-            0 => Call::Open(self.opening()),
+            0 => Call::Open(self.any_opening()),
             1 => Call::Counters { room: 32 },
             2 | 3 => Call::Command { line: self.line(), room: 16 },
             4 => Call::Why { time: before[LAST], kind: self.random.number(6), room: 8 },
@@ -390,7 +375,7 @@ impl Bench {
                 let mut state = good.clone();
                 state.resize(length, 0);
                 let mut pair = self.pair(&state);
-                let opening = self.opening();
+                let opening = self.any_opening();
                 let line = self.line();
                 let one = self.any_call(good[LAST]);
                 let other = self.next_call(&good, false, 40);
@@ -533,9 +518,13 @@ impl Bench {
         println!("compare: answers: {}", listed(&self.answers));
         println!("compare: permits on a full list: {}", listed(&lists.into_iter().zip(self.cuts).collect()));
         println!("compare: blocks by limits of 254 and 255: {}", listed(&self.high));
+        println!("compare: openings, by the files that the card lacks: {}", listed(&self.lacking));
+        println!("compare: blocks by limits of the module's own file: {}", listed(&self.own_blocks));
         let long = self.cuts.iter().all(|&n| n >= LEAST_EACH) && self.high.len() == 7 && self.high.values().all(|&n| n >= LEAST_EACH);
         let mut seldom = too_seldom("answer", &ANSWERS, &self.answers);
         let strange: Vec<&u32> = self.answers.keys().filter(|a| !ANSWERS.contains(a)).collect();
+        seldom.extend(too_seldom("card without", &LACKING, &self.lacking));
+        seldom.extend(too_seldom("block by the own file", &RPM_BLOCKS, &self.own_blocks));
         seldom.extend(self.why_seldom());
         let enough = seldom.is_empty() && strange.is_empty() && long && self.calls >= LEAST_CALLS;
         if !enough {
@@ -600,6 +589,8 @@ fn main() {
         cuts: [0; 5],
         high: BTreeMap::new(),
         reached: Reached::default(),
+        lacking: BTreeMap::new(),
+        own_blocks: BTreeMap::new(),
     };
     bench.figures();
     bench.limits();
@@ -608,6 +599,9 @@ fn main() {
     bench.leaks();
     bench.openings();
     bench.files();
+    bench.spoiled_files();
+    bench.every_five_files();
+    bench.ruling_files();
     bench.short_sequences();
     bench.long_sequences();
     bench.good_states();

@@ -1,5 +1,6 @@
 //! What is made for the comparison, at random and near the edges: openings, good states, times, AT lines, calls.
 use crate::both::{by_model, file, Bench, Call, Opening};
+use crate::files::FILES;
 use crate::model::*;
 
 /// Numbers at the edges of every range of the document, and of the widths that numbers are kept in.
@@ -10,7 +11,7 @@ pub const EDGES: [u32; 34] = [
 ];
 
 impl Bench {
-    /// Settings in range, near the edges.
+    /// Settings in range, near the edges, and files that are good. Every second card may lack some of its files.
     pub fn opening(&mut self) -> Opening {
         let random = &mut self.random;
         let early = random.number(100_000);
@@ -20,6 +21,10 @@ impl Bench {
         let limits = random.pick(&[&[0, 0, 1, 2, 3, 5][..], &[0, 1], &[0, 254, 255], &[1, 2, 200, 255]]);
         let rates = random.pick(&[&[0, 1][..], &[0, 1, 2, 3, 24], &[0, 254, 255]]);
         let counts = random.pick(&[&[0, 1, 2][..], &[3, 100, 200], &[253, 254, 255]]);
+        let lacks = random.pick(&[0, 50]);
+        let (params, own_params) = self.two_files(lacks, FILES[0], limits);
+        let (leaks, own_leaks) = self.two_files(lacks, FILES[1], rates);
+        let (counters, _) = self.two_files(lacks, FILES[2], counts);
         Opening {
             time,
             imsi: self.imsi(),
@@ -28,10 +33,53 @@ impl Bench {
             rpm: u32::from(self.random.chance(75)),
             a1: u32::from(self.random.pick(limits)),
             s1: u32::from(self.random.pick(limits)),
-            params: file(32, &[(); 6].map(|()| self.random.pick(limits))),
-            leaks: file(6, &[(); 3].map(|()| self.random.pick(rates))),
-            counters: file(32, &[(); 6].map(|()| self.random.pick(counts))),
+            params,
+            leaks,
+            counters,
+            own_params,
+            own_leaks,
         }
+    }
+
+    /// A file of the card, which it lacks at that percentage, and a different one of the module's own.
+    fn two_files(&mut self, lacks: u64, (length, used): (usize, usize), from: &[u8]) -> (Vec<u8>, Vec<u8>) {
+        let mut made = || file(length, &(0..used).map(|_| self.random.pick(from)).collect::<Vec<u8>>());
+        let (mut card, own) = (made(), made());
+        while card == own {
+            card = made();
+        }
+        if self.random.chance(lacks) {
+            card.clear();
+        }
+        (card, own)
+    }
+
+    /// An opening whose files may be bad.
+    pub fn any_opening(&mut self) -> Opening {
+        let mut opening = self.opening();
+        for _ in 0..self.random.below(4) {
+            let which = self.random.below(5) as usize;
+            let bytes = self.spoiled(&opening, which);
+            opening.set_file(which, bytes);
+        }
+        opening
+    }
+
+    /// One of the files changed in its length or in a byte, or with another one in its place.
+    fn spoiled(&mut self, opening: &Opening, which: usize) -> Vec<u8> {
+        let random = &mut self.random;
+        let files = opening.files();
+        let mut bytes = files[which].to_vec();
+        let at = random.below(bytes.len().max(1) as u64) as usize;
+        let (length, _) = FILES[which];
+        match (random.below(5), bytes.get_mut(at)) {
+            (0, _) => bytes.clear(),
+            (1, _) => bytes.resize(random.pick(&[1, length - 1, length, length + 1]), 0),
+            (2, _) => bytes = random.pick(&files).to_vec(),
+            (_, Some(byte)) => *byte = random.pick(&[0, 1, 255]),
+            (_, None) => bytes.push(0),
+        }
+        bytes
     }
 
     fn imsi(&mut self) -> u64 {

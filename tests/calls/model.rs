@@ -1,6 +1,6 @@
-//! A model of the ten calls on the buffer of 1,330 numbers, written from document 01 and, for `why`, from the customer's request §1, and
-//! from nothing else. It is plain and slow on purpose: each part names the heading that it follows, to be read beside it. It never panics,
-//! whatever it is given.
+//! A model of the ten calls on the buffer of 1,330 numbers, written from document 01 and from the customer's requests, §1 for `why` and §2
+//! for the files of an opening, and from nothing else. It is plain and slow on purpose: each part names the heading that it follows, to be
+//! read beside it. It never panics, whatever it is given.
 #![forbid(unsafe_code)]
 
 /// The two numbers given back.
@@ -123,7 +123,18 @@ fn good_file(file: &[u8], length: usize, used: usize) -> bool {
     file.len() == length && file[used..].iter().all(|&byte| byte == 0)
 }
 
-/// Opening: "given the time, IMSI, intervals, NFM, RPM, A1, S1 and the three files".
+/// §2, "Cards that carry no RPM files": which of two files rules, the module's own where the card's is absent, or `None` where one of them
+/// is bad. "2 stays, for every length except 0 and the file's own, for a reserved byte other than 0, and for a default file bad or empty,
+/// used or not."
+fn ruling<'a>(card: &'a [u8], own: &'a [u8], length: usize, used: usize) -> Option<&'a [u8]> {
+    let absent = card.is_empty();
+    if !good_file(own, length, used) || !(absent || good_file(card, length, used)) {
+        return None;
+    }
+    Some(if absent { own } else { card })
+}
+
+/// Opening: "given the time, IMSI, intervals, NFM, RPM, A1, S1 and the three files", and the module's own two of §2.
 #[allow(clippy::too_many_arguments)]
 pub fn open(
     s: &mut [u32],
@@ -137,15 +148,18 @@ pub fn open(
     params: &[u8],
     leaks: &[u8],
     counters: &[u8],
+    own_params: &[u8],
+    own_leaks: &[u8],
 ) -> Answer {
     if s.len() != PLACES {
         return (1, 0);
     }
     let settings = imsi <= LARGEST_IMSI && good_intervals(intervals) && nfm <= 1 && rpm <= 1 && a1 <= 255 && s1 <= 255;
-    let files = good_file(params, 32, 6) && good_file(leaks, 6, 3) && good_file(counters, 32, 6);
-    if !settings || !files {
+    // "Each file is judged by itself"; "absent counters begin at 0".
+    let files = (ruling(params, own_params, 32, 6), ruling(leaks, own_leaks, 6, 3), ruling(counters, &[0; 32], 32, 6));
+    let (true, (Some(params), Some(leaks), Some(counters))) = (settings, files) else {
         return (2, 0);
-    }
+    };
     if time > LATEST {
         return (3, 0);
     }

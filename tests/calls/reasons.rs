@@ -16,7 +16,7 @@ pub fn applying(kind: u32, mood: u32, rpm: u32) -> u32 {
 /// A state opened so, and moved on to `last`.
 fn quiet(opened: u32, last: u32) -> Vec<u32> {
     let mut s = vec![0; PLACES];
-    model::open(&mut s, opened, 1_010_123_456_789, &[60, 120, 240], 1, 1, 0, 0, &[0; 32], &[0; 6], &[0; 32]);
+    model::open(&mut s, opened, 1_010_123_456_789, &[60, 120, 240], 1, 1, 0, 0, &[0; 32], &[0; 6], &[0; 32], &[0; 32], &[0; 6]);
     s[LAST] = last;
     s
 }

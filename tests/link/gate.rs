@@ -29,6 +29,10 @@ pub mod c {
             leaks_count: usize,
             counters: *const u8,
             counters_count: usize,
+            own_params: *const u8,
+            own_params_count: usize,
+            own_leaks: *const u8,
+            own_leaks_count: usize,
         ) -> Answer;
         pub fn dialchisel_request(state: *mut u32, state_count: usize, time: u32, kind: u32) -> Answer;
         pub fn dialchisel_why(state: *const u32, state_count: usize, time: u32, kind: u32, times: *mut u32, times_count: usize) -> Answer;
@@ -54,6 +58,9 @@ pub const STATE: usize = 1330;
 
 /// How many rules can stand against a request.
 pub const RULES: usize = 8;
+
+/// A parameter file of the module's own with RTC10's values: N1 20; T1 60 minutes, in units of 6; F1 60, F2 30, F3 60, F4 30.
+pub const RTC10: [u8; 32] = [20, 10, 60, 30, 60, 30, 0, 0, 0, 0, 0, 0, 0, 0, 0, 0, 0, 0, 0, 0, 0, 0, 0, 0, 0, 0, 0, 0, 0, 0, 0, 0];
 
 /// What a request asks for.
 #[derive(Clone, Copy, Debug, PartialEq, Eq)]
@@ -95,7 +102,7 @@ pub enum Verdict {
 pub enum Refusal {
     /// The state is damaged, or a room has the wrong size.
     Buffer,
-    /// An argument is out of range, or a card file is bad.
+    /// An argument is out of range, or a file is bad.
     Range,
     /// The time is below the last one or above 4,000,000,000.
     Time,
@@ -202,7 +209,8 @@ impl From<c::Answer> for Verdict {
     }
 }
 
-/// What a gate is opened with.
+/// What a gate is opened with. A file of the card is `None` where the card lacks it, and an empty slice means the same: then the module's
+/// own rules in its place, and counters begin at 0. The module's own two are always needed; there an empty slice is refused.
 #[derive(Clone, Copy, Debug)]
 pub struct Settings<'a> {
     pub time: u32,
@@ -212,9 +220,16 @@ pub struct Settings<'a> {
     pub rpm: bool,
     pub a1: u8,
     pub s1: u8,
-    pub parameters: &'a [u8],
-    pub leak_rates: &'a [u8],
-    pub counters: &'a [u8],
+    /// 32 bytes, as they were read from the card.
+    pub parameters: Option<&'a [u8]>,
+    /// 6 bytes.
+    pub leak_rates: Option<&'a [u8]>,
+    /// 32 bytes.
+    pub counters: Option<&'a [u8]>,
+    /// 32 bytes, `RTC10` for example.
+    pub own_parameters: &'a [u8],
+    /// 6 bytes.
+    pub own_leak_rates: &'a [u8],
 }
 
 /// A gate with its state. Each call borrows it whole, so no other call can run on it at the same time.
@@ -245,7 +260,9 @@ impl Gate {
 
     /// Opens this gate anew; a refusal leaves it as it was.
     pub fn reopen(&mut self, settings: &Settings) -> Verdict {
-        let Settings { time, imsi, intervals, nfm, rpm, a1, s1, parameters, leak_rates, counters } = *settings;
+        let Settings { time, imsi, intervals, nfm, rpm, a1, s1, own_parameters, own_leak_rates, .. } = *settings;
+        let [parameters, leak_rates, counters] =
+            [settings.parameters, settings.leak_rates, settings.counters].map(Option::unwrap_or_default);
         // SAFETY (here and below): each pointer and count come from one slice, which is borrowed until the call returns, for writing where
         // the pointer is not const.
         unsafe {
@@ -266,6 +283,10 @@ impl Gate {
                 leak_rates.len(),
                 counters.as_ptr(),
                 counters.len(),
+                own_parameters.as_ptr(),
+                own_parameters.len(),
+                own_leak_rates.as_ptr(),
+                own_leak_rates.len(),
             )
         }
         .into()

@@ -1,5 +1,5 @@
-/* A C program on the archive: document 01's printed example, refusals, AT lines, why the gate says no, the counter file. It ends in failure
- * on any surprise. It is C99, and C++17 too. */
+/* A C program on the archive: document 01's printed example, refusals, AT lines, why the gate says no, the counter file, a card that lacks
+ * its files. It ends in failure on any surprise. It is C99, and C++17 too. */
 #include "dialchisel.h"
 
 #include <stdio.h>
@@ -30,6 +30,7 @@ static uint32_t state[DIALCHISEL_STATE];
 static const size_t count = DIALCHISEL_STATE;
 static const uint32_t intervals[] = {60, 120, 240};
 static const uint8_t zeros[32] = {0};
+static const uint8_t own_params[DIALCHISEL_PARAMETER_FILE] = DIALCHISEL_RTC10;
 
 /* Opens the state as the example has it, but for the state's count, the IMSI and the leak rate file's length. */
 static struct dialchisel_answer opened(size_t state_count, uint64_t imsi, size_t leaks_count)
@@ -37,7 +38,7 @@ static struct dialchisel_answer opened(size_t state_count, uint64_t imsi, size_t
     uint8_t counters[DIALCHISEL_COUNTER_FILE] = {0};
     counters[5] = 255; /* C-PDP-4 */
     return dialchisel_open(state, state_count, 1000, imsi, intervals, 3, 1, 1, 0, 2, zeros, DIALCHISEL_PARAMETER_FILE, zeros, leaks_count,
-                           counters, DIALCHISEL_COUNTER_FILE);
+                           counters, DIALCHISEL_COUNTER_FILE, own_params, DIALCHISEL_PARAMETER_FILE, zeros, DIALCHISEL_LEAK_FILE);
 }
 
 /* The printed example of document 01. */
@@ -127,11 +128,52 @@ static void bytes(void)
     is("counter file", memcmp(file, expected, sizeof file) == 0);
 }
 
+/* Opens the state for a card without a leak rate file, with this parameter file and counter file of the card or without them, and so many
+ * bytes of the module's own parameter file. */
+static struct dialchisel_answer opened_for(const uint8_t *params, size_t params_count, const uint8_t *counters, size_t counters_count,
+                                           size_t own_params_count)
+{
+    return dialchisel_open(state, count, 5000, 1010123456789u, intervals, 3, 1, 1, 0, 2, params, params_count, NULL, 0, counters,
+                           counters_count, own_params, own_params_count, zeros, DIALCHISEL_LEAK_FILE);
+}
+
+/* A card that lacks its files, the module's own in their place, and the counter file written for it. */
+static void lacking(void)
+{
+    const uint32_t rtc10[6] = {20, 10, 60, 30, 60, 30};
+    uint32_t before[DIALCHISEL_STATE];
+    uint8_t file[DIALCHISEL_COUNTER_FILE];
+    int i;
+    same("no files", opened_for(NULL, 0, NULL, 0, DIALCHISEL_PARAMETER_FILE), DIALCHISEL_DONE, 0);
+    is("RTC10's values", memcmp(state + DIALCHISEL_PLACE_N1, rtc10, sizeof rtc10) == 0);
+    is("no leak", memcmp(state + DIALCHISEL_PLACE_LEAK_RATES, zeros, 3 * sizeof *state) == 0);
+    is("counters begin at 0", memcmp(state + DIALCHISEL_PLACE_C_BR_1, zeros, 6 * sizeof *state) == 0);
+
+    for (i = 0; i < 20; i++)
+        same("reset", dialchisel_request(state, count, 5000, DIALCHISEL_MODULE_RESET), DIALCHISEL_DONE, 0);
+    same("one reset more", dialchisel_request(state, count, 5000, DIALCHISEL_MODULE_RESET), DIALCHISEL_BLOCKED_N1, 0);
+    same("counters", dialchisel_counters(state, count, file, sizeof file), DIALCHISEL_DONE, DIALCHISEL_COUNTER_FILE);
+
+    memcpy(before, state, sizeof before);
+    same("no own file", opened_for(zeros, DIALCHISEL_PARAMETER_FILE, file, sizeof file, 0), DIALCHISEL_REFUSED_RANGE, 0);
+    same("own file too short", opened_for(zeros, DIALCHISEL_PARAMETER_FILE, file, sizeof file, 31), DIALCHISEL_REFUSED_RANGE, 0);
+    same("card file too short", opened_for(zeros, 31, file, sizeof file, DIALCHISEL_PARAMETER_FILE), DIALCHISEL_REFUSED_RANGE, 0);
+    is("refusals change nothing", memcmp(before, state, sizeof before) == 0);
+
+    same("with counters", opened_for(NULL, 0, file, sizeof file, DIALCHISEL_PARAMETER_FILE), DIALCHISEL_DONE, 0);
+    is("the block was counted", state[DIALCHISEL_PLACE_C_BR_1] == 1);
+    is("the other counters", memcmp(state + DIALCHISEL_PLACE_C_R_1, zeros, 5 * sizeof *state) == 0);
+    is("RTC10's values again", memcmp(state + DIALCHISEL_PLACE_N1, rtc10, sizeof rtc10) == 0);
+    same("with parameters", opened_for(zeros, DIALCHISEL_PARAMETER_FILE, NULL, 0, DIALCHISEL_PARAMETER_FILE), DIALCHISEL_DONE, 0);
+    is("the card's limits", memcmp(state + DIALCHISEL_PLACE_N1, zeros, sizeof rtc10) == 0);
+}
+
 int main(void)
 {
     example();
     refusals();
     bytes();
+    lacking();
     printf("use.c: %d answers and places as document 01 has them, %d surprises\n", looked - surprises, surprises);
     return surprises != 0;
 }

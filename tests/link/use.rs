@@ -1,8 +1,8 @@
 //! A Rust program on the safe wrapper: document 01's printed example, refusals, why the gate says no, an AT line, the counter file, a state
-//! that is saved and brought back. It ends in failure on any surprise.
+//! that is saved and brought back, a card that lacks its files. It ends in failure on any surprise.
 mod gate;
 
-use gate::{Advice, Block, Gate, Refusal, Request, Rule, Service, Settings, Verdict};
+use gate::{Advice, Block, Gate, Refusal, Request, Rule, Service, Settings, Verdict, RTC10};
 use std::process::ExitCode;
 
 /// Notes each surprise and how many things were looked at.
@@ -96,6 +96,28 @@ fn bytes(seen: &mut Seen, gate: &mut Gate) {
     seen.same("counter file", file, expected);
 }
 
+/// What a gate opened so has from its files: six parameters, three leak rates, six counters.
+fn taken(settings: &Settings) -> Result<Vec<u32>, Verdict> {
+    let places = |gate: Gate| [&gate.state()[20..26], &gate.state()[28..31], &gate.state()[44..50]].concat();
+    Gate::open(settings).map(places)
+}
+
+/// A card that lacks its files, and the module's own in their place.
+fn lacking(seen: &mut Seen, settings: &Settings) {
+    let bare = Settings { parameters: None, leak_rates: None, counters: None, own_leak_rates: &[1, 2, 3, 0, 0, 0], ..*settings };
+    let by_own = Ok(vec![20, 10, 60, 30, 60, 30, 1, 2, 3, 0, 0, 0, 0, 0, 0]);
+    seen.same("no files", taken(&bare), by_own.clone());
+    seen.same("empty files", taken(&Settings { parameters: Some(&[]), leak_rates: Some(&[]), counters: Some(&[]), ..bare }), by_own);
+    let counters = Settings { counters: settings.counters, ..bare };
+    seen.same("counters alone", taken(&counters), Ok(vec![20, 10, 60, 30, 60, 30, 1, 2, 3, 0, 0, 7, 0, 0, 0]));
+    let all = Settings { own_leak_rates: bare.own_leak_rates, ..*settings };
+    seen.same("all files", taken(&all), Ok(vec![0, 0, 0, 0, 0, 0, 0, 0, 0, 0, 0, 7, 0, 0, 0]));
+    let refused = Err(Verdict::Refused(Refusal::Range));
+    seen.same("no own parameters", taken(&Settings { own_parameters: &[], ..all }), refused.clone());
+    seen.same("own leak rates too short", taken(&Settings { own_leak_rates: &[0; 5], ..all }), refused.clone());
+    seen.same("parameters too short", taken(&Settings { parameters: Some(&[0; 31]), ..bare }), refused);
+}
+
 fn main() -> ExitCode {
     let mut seen = Seen { looked: 0, surprises: 0 };
     let mut counters = [0; 32];
@@ -108,9 +130,11 @@ fn main() -> ExitCode {
         rpm: true,
         a1: 0,
         s1: 2,
-        parameters: &[0; 32],
-        leak_rates: &[0; 6],
-        counters: &counters,
+        parameters: Some(&[0; 32]),
+        leak_rates: Some(&[0; 6]),
+        counters: Some(&counters),
+        own_parameters: &RTC10,
+        own_leak_rates: &[0; 6],
     };
     match Gate::open(&settings) {
         Ok(mut gate) => {
@@ -118,6 +142,7 @@ fn main() -> ExitCode {
             refusals(&mut seen, &mut gate, &settings);
             others(&mut seen, &mut gate);
             bytes(&mut seen, &mut gate);
+            lacking(&mut seen, &settings);
         }
         Err(verdict) => {
             eprintln!("use.rs: not opened: {verdict:?}");

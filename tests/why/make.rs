@@ -102,7 +102,7 @@ impl Maker {
     fn hours(&mut self) -> io::Result<()> {
         for (opened, sent) in [(0, 0), (1_000, 1_234), (LATEST - HOUR, LATEST - HOUR), (LATEST, LATEST)] {
             let mut state = vec![0; PLACES];
-            open(&mut state, opened, 1, &[60], 1, 1, 0, 1, &[0; 32], &[0; 6], &[0; 32]);
+            open(&mut state, opened, 1, &[60], 1, 1, 0, 1, &[0; 32], &[0; 6], &[0; 32], &[0; 32], &[0; 6]);
             request(&mut state, sent, 3);
             granted(&mut state, sent, 3);
             for time in [sent, sent + HOUR - 1, sent + HOUR] {
@@ -215,7 +215,8 @@ impl Trace {
     fn open(&mut self, time: u32, imsi: u64, params: [u8; 6], a1: u32, s1: u32) {
         let mut file = [0; 32];
         file[..6].copy_from_slice(&params);
-        let answer = open(&mut self.state, time, imsi, &[60, 120, 240], 1, 1, a1, s1, &file, &[0, 0, 1, 0, 0, 0], &[0; 32]);
+        let leaks = [0, 0, 1, 0, 0, 0];
+        let answer = open(&mut self.state, time, imsi, &[60, 120, 240], 1, 1, a1, s1, &file, &leaks, &[0; 32], &file, &leaks);
         let listed = params.map(|byte| byte.to_string()).join(",");
         self.said(&format!("O {time} {imsi} 60,120,240 {listed} 0,0,1 {a1} {s1}"), answer);
     }

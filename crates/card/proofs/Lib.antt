@@ -1,2 +1,4 @@
 pub mod Blank
 pub mod ReadsBack
+pub mod Chosen
+pub mod OnePart

@@ -1,9 +1,11 @@
 -- The card's files, of document 01's section "Card files": bytes in, meaning out. Assumes nothing.
 use Prim.Native.Nat.{ℕ}
-use mathlib.Core.Bool.{Bool, true, _&&_}
+use mathlib.Core.Path.{_≡_}
+use mathlib.Core.Bool.{Bool, true, cond, _&&_}
 use mathlib.Core.List.{List, [], _∷_}
 use lib.Dec.{eqb}
-use lib.ListN.{length, getD, drop, replicate}
+use lib.ListN.{length, getD, take, drop, replicate}
+use denote.Ref.{RefT, ptr, now}
 
 -- every byte is 0
 unfoldable pub blank : List ℕ → Bool
@@ -25,6 +27,51 @@ rateFile b = file 6 3 b
 -- counters: 32 bytes, 1-6 in the order of places 44-49
 abbrev pub counterFile : List ℕ → Bool
 counterFile b = file 32 6 b
+
+-- ---- Files that a card may lack: the module has one of its own for each
+
+-- an absent file has length 0
+unfoldable pub absent : List ℕ → Bool
+absent b = eqb (length b) 0
+
+-- a card carries the file, as document 01 has it, or none
+unfoldable pub carried : (long n : ℕ) → List ℕ → Bool
+carried long n b = cond (absent b) true (file long n b)
+
+-- the two are good: the card's, if there is one, and the module's, used or not
+unfoldable pub pair : (long n : ℕ) → (card own : List ℕ) → Bool
+pair long n card own = carried long n card && file long n own
+
+-- the file that rules: the card's, or the module's where the card has none
+unfoldable pub rulingFile : (card own : List ℕ) → List ℕ
+rulingFile card own = cond (absent card) own card
+
+-- its first n bytes, or none where either file is bad
+unfoldable pub part : (long n : ℕ) → (card own : List ℕ) → List ℕ
+part long n card own = cond (pair long n card own) (take n (rulingFile card own)) []
+
+-- r is that part, without a copy: it begins where the file that rules begins
+pub record IsPart (long n : ℕ) (card own r : RefT (List ℕ)) : Type 0 where
+  pub begins : ptr r ≡ cond (absent (now card)) (ptr own) (ptr card)
+  pub holds : now r ≡ part long n (now card) (now own)
+
+-- the six bytes that rule
+abbrev pub sixParameters : (card own : List ℕ) → List ℕ
+sixParameters card own = part 32 6 card own
+
+-- the three leak rates that rule
+abbrev pub threeRates : (card own : List ℕ) → List ℕ
+threeRates card own = part 6 3 card own
+
+-- the six counters; absent ones begin at 0
+abbrev pub sixCounters : (card : List ℕ) → List ℕ
+sixCounters card = part 32 6 card (replicate 32 0)
+
+-- RTC10's values as a parameter file: N1 20, T1 60 minutes in units of 6, F1 60, F2 30, F3 60, F4 30
+abbrev pub rtc10 : List ℕ
+rtc10 = 20 ∷ 10 ∷ 60 ∷ 30 ∷ 60 ∷ 30 ∷ replicate 26 0
+
+-- ---- The counter file that is written
 
 -- the file that six counters are written as
 unfoldable pub written : List ℕ → List ℕ

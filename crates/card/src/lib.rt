@@ -1,9 +1,10 @@
-// The card's files: whether one is as document 01 has it, and the counter file written. Nothing here knows the buffer.
+// The card's files: whether one is as document 01 has it, which file rules where the card may lack it, and the counter file written. Nothing
+// here knows the buffer.
 ghost use mathlib.Core.Path.{_≡_};
-ghost use mathlib.Core.Bool.{_&&_};
+ghost use mathlib.Core.Bool.{cond};
 ghost use Prim.Native.Nat.{_≤_};
 ghost use lib.ListN.{length, replicate};
-ghost use Rattle.card.specs.Card.{blank, file, parameterFile, rateFile, counterFile, written};
+ghost use Rattle.card.specs.Card.{blank, file, absent, carried, IsPart, written};
 
 // Every byte is 0.
 fn is_blank(p: &[u8]) -> bool
@@ -19,7 +20,7 @@ fn is_blank(p: &[u8]) -> bool
 }
 
 // A file of so many bytes, the first n used and every other 0.
-pub fn is_file(p: &[u8], long: usize, n: usize) -> bool
+fn is_file(p: &[u8], long: usize, n: usize) -> bool
     requires { ⌜ n ≤ long ⌝ }
     ensures { λ r. ⌜ r ≡ file long n (now (p .entry)) ⌝ }
 {
@@ -29,12 +30,99 @@ pub fn is_file(p: &[u8], long: usize, n: usize) -> bool
     is_blank(&p[n..])
 }
 
-// The three files that opening reads: parameters, leak rates, counters.
-pub fn are_files(p: &[u8], r: &[u8], k: &[u8]) -> bool
-    ensures { λ x. ⌜ x ≡ (parameterFile (now (p .entry)) && rateFile (now (r .entry)) && counterFile (now (k .entry))) ⌝ }
+// A file that the card may lack: absent, or a file of so many bytes, the first n used and every other 0.
+fn is_carried(p: &[u8], long: usize, n: usize) -> bool
+    requires { ⌜ n ≤ long ⌝ }
+    ensures { λ r. ⌜ r ≡ carried long n (now (p .entry)) ⌝ }
 {
-    is_file(p, 32, 6) & is_file(r, 6, 3) & is_file(k, 32, 6)
+    if p.len() == 0 {
+        return true;
+    }
+    is_file(p, long, n)
 }
+
+// The file that rules: the card's, or the module's own where the card has none.
+fn ruling_file<'a>(card: &'a [u8], own: &'a [u8]) -> &'a [u8]
+    ensures { λ r. ⌜ r ≡ cond (absent (now (card .entry))) (own .entry) (card .entry) ⌝ }
+{
+    if card.len() != 0 {
+        return card;
+    }
+    own
+}
+
+// The first n bytes of the file that rules, as a part of it; an empty part where either file is bad, the module's used or not.
+fn part<'a>(card: &'a [u8], own: &'a [u8], long: usize, n: usize) -> &'a [u8]
+    requires { ⌜ n ≤ long ⌝ }
+    ensures { λ r. ⌜ IsPart long n (card .entry) (own .entry) r ⌝ }
+{
+    let file = ruling_file(card, own);
+    let good = is_carried(card, long, n) & is_file(own, long, n);
+    if !good {
+        return &file[..0];
+    }
+    &file[..n]
+}
+
+// The six bytes N1, T1, F1, F2, F3, F4 that rule: a part of the card's parameter file, or of the module's own where the card has none.
+pub fn parameters<'a>(card: &'a [u8], own: &'a [u8]) -> &'a [u8]
+    ensures { λ r. ⌜ IsPart 32 6 (card .entry) (own .entry) r ⌝ }
+{
+    part(card, own, 32, 6)
+}
+
+// The three leak rates that rule, in the same way.
+pub fn rates<'a>(card: &'a [u8], own: &'a [u8]) -> &'a [u8]
+    ensures { λ r. ⌜ IsPart 6 3 (card .entry) (own .entry) r ⌝ }
+{
+    part(card, own, 6, 3)
+}
+
+// The six counters, in the same way; for a card that has none the caller lends zeros.
+pub fn counters<'a>(card: &'a [u8], zeros: &'a [u8]) -> &'a [u8]
+    ensures { λ r. ⌜ IsPart 32 6 (card .entry) (zeros .entry) r ⌝ }
+{
+    part(card, zeros, 32, 6)
+}
+
+// RTC10's values as a parameter file, for a module that has no others to go by.
+pub const RTC10: [u8; 32] = [
+    // N1, and T1: 60 minutes, in units of 6
+    20,
+    10,
+    // F1 to F4
+    60,
+    30,
+    60,
+    30,
+    // reserved
+    0,
+    0,
+    0,
+    0,
+    0,
+    0,
+    0,
+    0,
+    0,
+    0,
+    0,
+    0,
+    0,
+    0,
+    0,
+    0,
+    0,
+    0,
+    0,
+    0,
+    0,
+    0,
+    0,
+    0,
+    0,
+    0,
+];
 
 // All 32 bytes become 0.
 fn erase(out: &mut [u8])

@@ -8,9 +8,10 @@ ghost use Rattle.opening.specs.Open.{order, OpenSays};
 ghost use Rattle.saving.specs.Save.{SaveSays};
 ghost use Rattle.command.specs.Command.{CommandSays};
 
-// Opens the state: a new record begins. 1 for a state that is not 1,330 numbers, 2 for a setting or file out of range, 3 for the time.
+// Opens the state: a new record begins. The card's three files may each be absent, with no bytes: the module's own two rule then, and counters begin
+// at 0. 1 for a state that is not 1,330 numbers, 2 for a setting or file out of range, 3 for the time.
 #[no_mangle]
-pub extern "C" fn dialchisel_open(
+pub extern "C" fn dialchisel_open<'a, 'b>(
     state: &mut [u32],
     time: u32,
     imsi: u64,
@@ -19,11 +20,13 @@ pub extern "C" fn dialchisel_open(
     rpm: u32,
     a1: u32,
     s1: u32,
-    params: &[u8],
-    leaks: &[u8],
+    params: &'a [u8],
+    leaks: &'b [u8],
     counters: &[u8],
+    own_params: &'a [u8],
+    own_leaks: &'b [u8],
 ) -> Answer
-    ensures { λ r. ⌜ OpenSays (now (state .entry)) (order time imsi (now (intervals .entry)) nfm rpm a1 s1 (now (params .entry)) (now (leaks .entry)) (now (counters .entry))) r (now (state .exit)) ⌝ }
+    ensures { λ r. ⌜ OpenSays (now (state .entry)) (order time imsi (now (intervals .entry)) nfm rpm a1 s1 (now (params .entry)) (now (leaks .entry)) (now (counters .entry)) (now («own_params» .entry)) (now («own_leaks» .entry))) r (now (state .exit)) ⌝ }
 {
     gate::open(
         state,
@@ -37,6 +40,8 @@ pub extern "C" fn dialchisel_open(
         params,
         leaks,
         counters,
+        own_params,
+        own_leaks,
     )
 }
 

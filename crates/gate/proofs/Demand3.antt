@@ -25,12 +25,12 @@ use Rattle.clock.specs.Call.{callAnswer, callAfter, Says}
 use Rattle.clock.proofs.Saying.{after-is, answer-is}
 use Rattle.reasons.specs.Why.{reasons, whyOf}
 use Rattle.reasons.proofs.Record.{reasons-same}
-use Rattle.opening.specs.Open.{Order, settings, files, openNumber, givenBy, openAfter, OpenSays}
+use Rattle.opening.specs.Open.{Order, Typed, settings, files, openNumber, givenBy, openAfter, OpenSays}
 use Rattle.opening.proofs.Opened.{opened-bytes, opened-valid}
 use Rattle.at.specs.Lines.{readLine}
 use Rattle.command.specs.Command.{CommandSays}
 use Rattle.command.proofs.Lined.{heard-says, unheard-left}
-use Rattle.gate.specs.History.{Doing, Typed, opened, called, obeyed, saved, Run, done, then, accepts, Since, since}
+use Rattle.gate.specs.History.{Doing, opened, called, obeyed, saved, Run, done, then, accepts, Since, since}
 
 -- the buffer b holds what the calls cs since an opening by g leave
 record Kept (g : Given) (cs : List Call) (b : List ℕ) : Type 0 where
@@ -92,8 +92,8 @@ module _ (b : List ℕ) (long : length b ≡ SIZE) (o : Order) where
 opened-kept : (b : List ℕ) (o : Order) (r : Answer) (x : List ℕ) → Typed o → openNumber b o ≡ 0 → OpenSays b o r x → Kept (givenBy o) [] x
 unfolding openAfter
 opened-kept b o r x t z s = record {
-  bytes = opened-bytes b o z (t .parameters) (t .rates) (t .counters);
-  valid = opened-valid b o z (t .parameters) (t .rates) (t .counters);
+  bytes = opened-bytes b o z t;
+  valid = opened-valid b o z t;
   is = s .left ∙ rw (eq-eqb (openNumber b o) 0 z);
 }
 

@@ -1,7 +1,6 @@
 -- Every call on one buffer, one after the other, as the calls' own promises have it; and the record that they leave: the calls since the
 -- last accepted opening. Assumes nothing.
-use mathlib.Core.Path.{_≡_}
-use mathlib.Core.Bool.{Bool, true, cond, _&&_}
+use mathlib.Core.Bool.{Bool, cond, _&&_}
 use mathlib.Core.List.{List, [], _∷_, _++_}
 use Prim.Native.Nat.{ℕ}
 use lib.Dec.{leb}
@@ -9,9 +8,8 @@ use lib.ListN.{length}
 use Rattle.rules.specs.declared.Answer.{Answer}
 use Rattle.rules.specs.Calls.{Given, Call, typed}
 use Rattle.rules.specs.Tables.{highestTime}
-use Rattle.buffer.specs.Good.{bytes}
 use Rattle.clock.specs.Call.{Says}
-use Rattle.opening.specs.Open.{Order, settings, files, givenBy, OpenSays}
+use Rattle.opening.specs.Open.{Order, Typed, settings, files, givenBy, OpenSays}
 use Rattle.saving.specs.Save.{SaveSays}
 use Rattle.at.specs.Lines.{readLine}
 use Rattle.command.specs.Command.{CommandSays}
@@ -22,12 +20,6 @@ pub data Doing : Type 0 where
   calls : Call → Doing
   types : (line room : List ℕ) → Doing
   saves : (room : List ℕ) → Doing
-
--- what the argument's type says: a file is bytes
-pub record Typed (o : Order) : Type 0 where
-  pub parameters : bytes (o .parameters) ≡ true
-  pub rates : bytes (o .rates) ≡ true
-  pub counters : bytes (o .counters) ≡ true
 
 -- doing d on the buffer b leaves x, by the promise of its call; r is its answer, and y what is left of a room
 pub data Done (b : List ℕ) : Doing → Answer → List ℕ → Type 0 where

@@ -1,9 +1,11 @@
 -- C1 to C10 and the printed trace, as one theorem over one list: on the buffer, and over the record. Assumes nothing.
 use mathlib.Core.Path.{_≡_, refl, sym, ap, _∙_, fun-ext}
-use mathlib.Core.Bool.{true}
+use mathlib.Core.Bool.{Bool, true}
 use mathlib.Core.List.{List, [], _∷_, map}
 use Prim.Native.Nat.{ℕ}
+use lib.Dec.{eqb}
 use lib.ListN.{getD}
+use borrow.Author.Tests.{eqb-true}
 use Rattle.rules.specs.declared.Answer.{Answer}
 use Rattle.rules.specs.Calls.{C-PDP-1, Call}
 use Rattle.rules.specs.Tables.{within, action, moodOn, waitFor, ascending, ofSix}
@@ -13,14 +15,14 @@ use Rattle.rules.specs.Told.{tells, told}
 use Rattle.rules.proofs.RecordTells.{answers-told, as-told}
 use Rattle.rules.proofs.Demand3.{held-told, held-answers}
 use Rattle.buffer.specs.Layout.{lay, factsOf}
-use Rattle.buffer.specs.Good.{atMost, valid}
+use Rattle.buffer.specs.Good.{atMost, bytes, every, valid}
+use Rattle.buffer.proofs.Tests.{pick}
 use Rattle.buffer.proofs.Goodness.{view-lay-valid}
 use Rattle.buffer.proofs.Keep.{keep}
-use Rattle.card.specs.Card.{blank, file, written}
+use Rattle.card.specs.Card.{blank, file, absent, carried, pair, rulingFile, part, written}
 use Rattle.clock.specs.Call.{callAfter}
-use Rattle.opening.specs.Open.{Order, settings, files, openNumber, givenBy, openAfter}
+use Rattle.opening.specs.Open.{Order, Typed, settings, files, openNumber, begun, givenBy, openAfter}
 use Rattle.opening.proofs.Opened.{opened-bytes, opened-valid}
-use Rattle.gate.specs.History.{Typed}
 use Rattle.gate.proofs.Demand3.{answer-lay, after-lay}
 use Rattle.lesson.specs.Cases.{Case, Seen, answersOn, leftBy, empty, seenOnBuffer, seenOverRecord, cases, expected}
 
@@ -34,7 +36,7 @@ seen-ran : (c : Case) → seenOverRecord c ≡ ran c
 seen-ran c i = let g = givenBy (c .from) in record { given = sym (answers-told g (c .calls)) i; pdp1 = sym (as-told g (c .calls) .counters C-PDP-1) i }
 
 computed : map ran cases ≡ expected
-unfolding givenBy within action moodOn waitFor limits blocks inRange stands refusal runs wait failed verdict ruling points moved counted asked onGranted onFailed acted switched obeyed changed onto adds learn fresh
+unfolding begun part pair carried absent file blank rulingFile within action moodOn waitFor limits blocks inRange stands refusal runs wait failed verdict ruling points moved counted asked onGranted onFailed acted switched obeyed changed onto adds learn fresh
 computed = refl
 
 pub figures-over-the-record : map seenOverRecord cases ≡ expected
@@ -62,9 +64,18 @@ record Fine (o : Order) : Type 0 where
   typed : Typed o
   accepted : openNumber empty o ≡ 0
 
+fine : (o : Order) → every (bytes (o .parameters) ∷ bytes (o .rates) ∷ bytes (o .counters) ∷ bytes (o .ownParameters) ∷ bytes (o .ownRates) ∷ eqb (openNumber empty o) 0 ∷ []) ≡ true → Fine o
+fine o h =
+    let tests : List Bool = bytes (o .parameters) ∷ bytes (o .rates) ∷ bytes (o .counters) ∷ bytes (o .ownParameters) ∷ bytes (o .ownRates) ∷ eqb (openNumber empty o) 0 ∷ [] in
+    let test : (i : ℕ) → _ = λ i. pick tests i h in
+    record {
+      typed = record { parameters = test 0; rates = test 1; counters = test 2; ownParameters = test 3; ownRates = test 4 };
+      accepted = eqb-true (openNumber empty o) 0 (test 5);
+    }
+
 module _ (c : Case) (f : Fine (c .from)) where
   ok : valid (fresh (givenBy (c .from))) ≡ true
-  ok = opened-valid empty (c .from) (f .accepted) (f .typed .parameters) (f .typed .rates) (f .typed .counters)
+  ok = opened-valid empty (c .from) (f .accepted) (f .typed)
 
   opened : openAfter empty (c .from) ≡ lay (fresh (givenBy (c .from)))
   unfolding openAfter
@@ -78,7 +89,7 @@ module _ (c : Case) (f : Fine (c .from)) where
   unfolding short tells
   record-same =
       ap (λ (w : State). getD (w .facts .counters) 2 0)
-      (held-told (givenBy (c .from)) (opened-bytes empty (c .from) (f .accepted) (f .typed .parameters) (f .typed .rates) (f .typed .counters)) (c .calls))
+      (held-told (givenBy (c .from)) (opened-bytes empty (c .from) (f .accepted) (f .typed)) (c .calls))
 
   same : seenOnBuffer c ≡ seenOverRecord c
   same =
@@ -87,7 +98,7 @@ module _ (c : Case) (f : Fine (c .from)) where
         given =
             (ap (λ (b : List ℕ). answersOn b (c .calls)) opened
             ∙ answers-lay (fresh g) ok (c .calls)
-            ∙ held-answers g (opened-bytes empty (c .from) (f .accepted) (f .typed .parameters) (f .typed .rates) (f .typed .counters)) (c .calls)) i;
+            ∙ held-answers g (opened-bytes empty (c .from) (f .accepted) (f .typed)) (c .calls)) i;
         pdp1 =
             (ap (λ (b : List ℕ). getD (written (factsOf (leftBy b (c .calls)) .counters)) 2 0) opened
             ∙ ap (λ (b : List ℕ). getD (written (factsOf b .counters)) 2 0) (left-lay (fresh g) ok (c .calls))
@@ -104,8 +115,9 @@ all-same [] h = refl
 all-same (c ∷ cs) h = λ i. same c (h .0) i ∷ all-same cs (h .1) i
 
 all-fine : AllFine cases
-unfolding atMost openNumber settings files file blank ascending
-all-fine = (record { typed = record { parameters = refl; rates = refl; counters = refl }; accepted = refl }, (record { typed = record { parameters = refl; rates = refl; counters = refl }; accepted = refl }, (record { typed = record { parameters = refl; rates = refl; counters = refl }; accepted = refl }, (record { typed = record { parameters = refl; rates = refl; counters = refl }; accepted = refl }, (record { typed = record { parameters = refl; rates = refl; counters = refl }; accepted = refl }, (record { typed = record { parameters = refl; rates = refl; counters = refl }; accepted = refl }, (record { typed = record { parameters = refl; rates = refl; counters = refl }; accepted = refl }, (record { typed = record { parameters = refl; rates = refl; counters = refl }; accepted = refl }, (record { typed = record { parameters = refl; rates = refl; counters = refl }; accepted = refl }, (record { typed = record { parameters = refl; rates = refl; counters = refl }; accepted = refl }, tt))))))))))
+unfolding atMost openNumber settings files pair carried absent file blank ascending
+all-fine =
+    (fine _ refl, (fine _ refl, (fine _ refl, (fine _ refl, (fine _ refl, (fine _ refl, (fine _ refl, (fine _ refl, (fine _ refl, (fine _ refl, tt))))))))))
 
 -- THE FIGURES
 pub figures : map seenOnBuffer cases ≡ expected

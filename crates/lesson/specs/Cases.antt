@@ -9,7 +9,7 @@ use Rattle.rules.specs.Record.{counter}
 use Rattle.rules.specs.Told.{ruledAll, told}
 use Rattle.buffer.specs.Places.{SIZE}
 use Rattle.buffer.specs.Layout.{factsOf}
-use Rattle.card.specs.Card.{written}
+use Rattle.card.specs.Card.{rtc10, written}
 use Rattle.clock.specs.Call.{callAnswer, callAfter}
 use Rattle.opening.specs.Open.{Order, givenBy, openAfter}
 
@@ -64,6 +64,8 @@ from t nfm n1 f2 f4 s1 lr3 pdp1 = record {
   parameters = padded 26 (n1 ∷ 0 ∷ 0 ∷ f2 ∷ 0 ∷ f4 ∷ []);
   rates = padded 3 (0 ∷ 0 ∷ lr3 ∷ []);
   counters = padded 26 (0 ∷ 0 ∷ pdp1 ∷ 0 ∷ 0 ∷ 0 ∷ []);
+  ownParameters = rtc10;
+  ownRates = replicate 6 0;
 }
 
 abbrev plain : Order

@@ -1,19 +1,19 @@
 -- A good buffer stays good, whatever line is answered on it. Assumes nothing.
 use Prim.Native.Nat.{ℕ, zero, suc, _-_}
-use mathlib.Core.Path.{_≡_, sym, subst}
+use mathlib.Core.Path.{_≡_, refl, sym, subst}
 use mathlib.Core.Bool.{true, cond}
 use mathlib.Core.List.{List, [], _∷_, _++_}
 use native.Mathlib.Omega.{arith}
 use lib.Dec.{leb, eqb}
 use lib.ListN.{length, getD, replicate}
 use borrow.Author.Tests.{eqb-true}
-use Rattle.buffer.specs.Good.{bytes, good}
+use Rattle.buffer.specs.Good.{atMost, bytes, good}
 use Rattle.buffer.specs.Segments.{pad}
 use Rattle.buffer.proofs.Goodness.{good-lay}
 use Rattle.buffer.proofs.Keep.{at-most-cons, at-most-nil}
 use Rattle.text.specs.Number.{Part, got, none}
 use Rattle.clock.proofs.Saying.{good-after}
-use Rattle.opening.specs.Open.{Order, openNumber, openAfter}
+use Rattle.opening.specs.Open.{Order, Typed, openNumber, openAfter}
 use Rattle.opening.proofs.Opened.{opened-valid}
 use Rattle.text.proofs.Choice.{cond-by}
 use Rattle.lines.specs.Trace.{Said, opens, calls, wrong, Row, row, no-row, fields, ended, space, comma, highest, highestByte, highestImsi, field, ifNumber, ifNumbers, ifExactly, Ending, ending, no-ending, endingOf, opensBy, openLine, typedLine, timedLine, letterO, letterA, byLetter, readTrace, saidBy, longest, begins, howMany}
@@ -46,7 +46,7 @@ EndingTyped no-ending = Unit {0}
 EndingTyped (ending p q a s) = (bytes p ≡ true) × (bytes q ≡ true)
 
 abbrev SaidTyped : Said → Type 0
-SaidTyped (opens o) = (bytes (o .parameters) ≡ true) × (bytes (o .rates) ≡ true) × (bytes (o .counters) ≡ true)
+SaidTyped (opens o) = Typed o
 SaidTyped (calls c) = Unit {0}
 SaidTyped wrong = Unit {0}
 
@@ -72,8 +72,9 @@ ending-typed l =
     cond-by EndingTyped (ended l3) {x = ending (pad 32 p) (pad 6 q) (getD n 0 0) (getD n 1 0)} {y = no-ending} (λ _. (pad-bytes 32 p u, pad-bytes 6 q v)) (λ _. tt))))
 
 opens-typed : (t i : ℕ) (xs : List ℕ) (e : Ending) → EndingTyped e → SaidTyped (opensBy t i xs e)
+unfolding atMost
 opens-typed t i xs no-ending h = tt
-opens-typed t i xs (ending p q a s) h = (h .0, h .1, zeros-bytes 32)
+opens-typed t i xs (ending p q a s) h = record { parameters = h .0; rates = h .1; counters = zeros-bytes 32; ownParameters = refl; ownRates = zeros-bytes 6 }
 
 open-typed : (l : List ℕ) → SaidTyped (openLine l)
 unfolding openLine
@@ -108,7 +109,7 @@ said-typed l = cond-by SaidTyped (leb (length l) longest) {x = readTrace l} {y =
 open-stays : (b : List ℕ) (o : Order) → SaidTyped (opens o) → good b ≡ true → good (openAfter b o) ≡ true
 unfolding openAfter
 open-stays b o t g =
-    cond-by (λ (x : List ℕ). good x ≡ true) (eqb (openNumber b o) 0) {y = b} (λ e. good-lay _ (opened-valid b o (eqb-true (openNumber b o) 0 e) (t .0) (t .1) (t .2))) (λ _. g)
+    cond-by (λ (x : List ℕ). good x ≡ true) (eqb (openNumber b o) 0) {y = b} (λ e. good-lay _ (opened-valid b o (eqb-true (openNumber b o) 0 e) t)) (λ _. g)
 
 left-good : (b : List ℕ) (w : Said) → SaidTyped w → good b ≡ true → good (leftBy b w) ≡ true
 left-good b (opens o) t g = open-stays b o t g

@@ -6,6 +6,7 @@ use lib.Dec.{eqb, leb}
 use lib.ListN.{length, getD, drop, replicate}
 use Rattle.rules.specs.Calls.{Call, timed, typed, Event, ask, granted, silent, rejected, dropped, tick}
 use Rattle.buffer.specs.Segments.{pad}
+use Rattle.card.specs.Card.{rtc10}
 use Rattle.opening.specs.Open.{Order, order}
 use Rattle.text.specs.Number.{Part, got, none, num}
 use Rattle.at.specs.Lines.{readLine}
@@ -155,10 +156,11 @@ endingOf l =
     ifExactly no-ending 2 (fields space highest 2 l2) (λ n l3.
     cond (ended l3) (ending (pad 32 p) (pad 6 q) (getD n 0 0) (getD n 1 0)) no-ending)))
 
--- the order to open: NFM and RPM 1, counters 0
+-- the order to open: NFM and RPM 1, counters 0. The line has the card's files; the module's own, which do not rule then, are RTC10's parameters and leak
+-- rates of 0
 abbrev pub opensBy : (time imsi : ℕ) (intervals : List ℕ) → Ending → Said
 opensBy t i xs no-ending = wrong
-opensBy t i xs (ending p q a s) = opens (order t i xs 1 1 a s p q (replicate 32 0))
+opensBy t i xs (ending p q a s) = opens (order t i xs 1 1 a s p q (replicate 32 0) rtc10 (replicate 6 0))
 
 -- O: time, IMSI, intervals, parameters, leak rates, A1, S1. A line of 256 bytes has room for fewer than 128 intervals; more than ten are for the opening
 -- to refuse

@@ -133,7 +133,7 @@ fn ending(line: &[u8], at: usize, parameters: &mut [u8], rates: &mut [u8]) -> Ho
     House::Limits(h[0], h[1])
 }
 
-// An opening whose time, IMSI and intervals were read.
+// An opening whose time, IMSI and intervals were read. The line has the card's files; the module's own are there, and none of them rules.
 fn open_with(
     s: &mut [u32],
     line: &[u8],
@@ -147,6 +147,8 @@ fn open_with(
     let mut parameters = [0u8; 32];
     let mut rates = [0u8; 6];
     let counters = [0u8; 32];
+    let own_parameters = card::RTC10;
+    let own_rates = [0u8; 6];
     match ending(line, at, &mut parameters, &mut rates) {
         House::Nothing => Reply::Wrong,
         House::Limits(a1, s1) => {
@@ -162,6 +164,8 @@ fn open_with(
                 &parameters,
                 &rates,
                 &counters,
+                &own_parameters,
+                &own_rates,
             ))
         }
     }

@@ -1,10 +1,10 @@
 -- What opening says in each of its cases, and what its checks tell of what it is given. Assumes nothing.
-use mathlib.Core.Path.{_≡_}
-use mathlib.Core.Bool.{Bool, true, false, _&&_}
+use mathlib.Core.Path.{_≡_, refl, _∙_}
+use mathlib.Core.Bool.{Bool, true, false, _&&_, and-true}
 use mathlib.Core.List.{List, [], _∷_}
 use Prim.Native.Nat.{ℕ, _≤_}
-use lib.Dec.{leb, eqb}
-use lib.ListN.{length}
+use lib.Dec.{leb, eqb, lit<, lit≤}
+use lib.ListN.{length, replicate}
 use borrow.Author.Tests.{leb-true, eqb-true}
 use Rattle.rules.specs.Calls.{answer}
 use Rattle.rules.specs.Tables.{highestTime, ascending, scheduled}
@@ -13,15 +13,47 @@ use Rattle.buffer.specs.Places.{SIZE}
 use Rattle.buffer.specs.Layout.{lay}
 use Rattle.rules.proofs.Checks.{and-left, and-right}
 use Rattle.buffer.proofs.Tests.{both, pick}
-use Rattle.card.specs.Card.{file, parameterFile, rateFile, counterFile}
-use Rattle.opening.specs.Open.{Order, order, settings, files, openNumber, givenBy, openAfter, OpenSays}
+use Rattle.card.specs.Card.{carried, pair, sixParameters, threeRates, sixCounters}
+use Rattle.card.proofs.Chosen.{part-tells}
+use Rattle.card.proofs.OnePart.{zero-counters-are-file}
+use Rattle.opening.specs.Open.{Order, order, settings, files, openNumber, begun, givenBy, openAfter, OpenSays}
 
--- the tests of settings and of files, as the code makes them
-pub tested : (o : Order) {r t : Bool} → r ≡ settings (order 0 (o .imsi) (o .intervals) (o .nfm) (o .rpm) (o .A1) (o .S1) [] [] [])
-    → t ≡ (parameterFile (o .parameters) && rateFile (o .rates) && counterFile (o .counters))
-    → (r && t) ≡ (settings o && files o)
-unfolding settings files
-tested o p q = both p q
+-- the length of each part that rules tells whether its files are good; counters have zeros beside them
+module _ (o : Order) where
+  abbrev P : List ℕ
+  P = sixParameters (o .parameters) (o .ownParameters)
+
+  abbrev Q : List ℕ
+  Q = threeRates (o .rates) (o .ownRates)
+
+  abbrev K : List ℕ
+  K = sixCounters (o .counters)
+
+  six : eqb (length P) 6 ≡ pair 32 6 (o .parameters) (o .ownParameters)
+  six = part-tells 32 6 (o .parameters) (o .ownParameters) (lit< tt) (lit≤ tt)
+
+  three : eqb (length Q) 3 ≡ pair 6 3 (o .rates) (o .ownRates)
+  three = part-tells 6 3 (o .rates) (o .ownRates) (lit< tt) (lit≤ tt)
+
+  counted : eqb (length K) 6 ≡ carried 32 6 (o .counters)
+  unfolding pair
+  counted = part-tells 32 6 (o .counters) (replicate 32 0) (lit< tt) (lit≤ tt) ∙ rw zero-counters-are-file (and-true (carried 32 6 (o .counters)))
+
+  -- the tests of settings and of files, as the code makes them
+  pub tested : {r : Bool} {p q k : List ℕ} → r ≡ settings (order 0 (o .imsi) (o .intervals) (o .nfm) (o .rpm) (o .A1) (o .S1) [] [] [] [] [])
+      → p ≡ P → q ≡ Q → k ≡ K
+      → (r && eqb (length p) 6 && eqb (length q) 3 && eqb (length k) 6) ≡ (settings o && files o)
+  unfolding settings files
+  tested {r} e f g h = rw (f, g, h, six, three, counted) (go r ∙ both e refl)
+    where
+      go : (x : Bool) → (x && pair 32 6 (o .parameters) (o .ownParameters) && pair 6 3 (o .rates) (o .ownRates) && carried 32 6 (o .counters)) ≡ (x && files o)
+      go true = refl
+      go false = refl
+
+  -- the new buffer, by the parts that the code has
+  pub laid : {p q k : List ℕ} → p ≡ P → q ≡ Q → k ≡ K → lay (fresh (begun (order (o .time) (o .imsi) (o .intervals) (o .nfm) (o .rpm) (o .A1) (o .S1) [] [] [] [] []) p q k)) ≡ lay (fresh (givenBy o))
+  unfolding begun
+  laid f g h = rw (f, g, h)
 
 -- what settings and files in order are
 pub record InOrder (o : Order) : Type 0 where
@@ -33,20 +65,16 @@ pub record InOrder (o : Order) : Type 0 where
   pub rpm : o .rpm ≤ 1
   pub A1 : o .A1 ≤ 255
   pub S1 : o .S1 ≤ 255
-  pub parameters : length (o .parameters) ≡ 32
-  pub rates : length (o .rates) ≡ 6
-  pub counters : length (o .counters) ≡ 32
-
-file-long : (long n : ℕ) (b : List ℕ) → file long n b ≡ true → length b ≡ long
-unfolding file
-file-long long n b h = eqb-true (length b) long (and-left (eqb (length b) long) _ h)
+  pub parameters : length (sixParameters (o .parameters) (o .ownParameters)) ≡ 6
+  pub rates : length (threeRates (o .rates) (o .ownRates)) ≡ 3
+  pub counters : length (sixCounters (o .counters)) ≡ 6
 
 pub in-order : (o : Order) → (settings o && files o) ≡ true → InOrder o
 unfolding settings files
 in-order o h =
     let l = o .intervals in
     let tests : List Bool = leb (o .imsi) 999999999999999 ∷ scheduled l ∷ leb (o .nfm) 1 ∷ leb (o .rpm) 1 ∷ leb (o .A1) 255 ∷ leb (o .S1) 255 ∷ [] in
-    let shapes : List Bool = parameterFile (o .parameters) ∷ rateFile (o .rates) ∷ counterFile (o .counters) ∷ [] in
+    let shapes : List Bool = pair 32 6 (o .parameters) (o .ownParameters) ∷ pair 6 3 (o .rates) (o .ownRates) ∷ carried 32 6 (o .counters) ∷ [] in
     let test : (i : ℕ) → _ = λ i. pick tests i (and-left (settings o) (files o) h) in
     let shape : (i : ℕ) → _ = λ i. pick shapes i (and-right (settings o) (files o) h) in
     let count = and-left (leb 1 (length l) && leb (length l) 10) _ (test 1) in
@@ -59,9 +87,9 @@ in-order o h =
       rpm = leb-true (o .rpm) 1 (test 3);
       A1 = leb-true (o .A1) 255 (test 4);
       S1 = leb-true (o .S1) 255 (test 5);
-      parameters = file-long 32 6 (o .parameters) (shape 0);
-      rates = file-long 6 3 (o .rates) (shape 1);
-      counters = file-long 32 6 (o .counters) (shape 2);
+      parameters = eqb-true (length (P o)) 6 (six o ∙ shape 0);
+      rates = eqb-true (length (Q o)) 3 (three o ∙ shape 1);
+      counters = eqb-true (length (K o)) 6 (counted o ∙ shape 2);
     }
 
 -- the three refusals, and a new buffer

@@ -4,15 +4,15 @@ use mathlib.Core.List.{List, [], _∷_, _++_, map}
 use Prim.Native.Nat.{ℕ, _+_, _/_, _%_, _^_, _≤_, _<_}
 use native.Mathlib.Omega.{arith}
 use lib.Dec.{lit<, lit≤}
-use lib.ListN.{length, getD, take, set, replicate, length-replicate, replicate-append-replicate}
-use lib.Seq.{length-take-le}
+use lib.ListN.{length, getD, set, replicate, length-replicate, replicate-append-replicate}
+use lib.Seq.{take-all}
 use Rattle.rules.specs.Rules.{fresh}
 use Rattle.buffer.specs.Places.{SIZE, LETTERS, INTERVALS, PARAMETERS, HOUSE, RATES, COUNTERS}
 use Rattle.buffer.specs.Segments.{concat, off, pad, paste}
 use Rattle.buffer.specs.Layout.{letters, segments, spread, lay}
-use Rattle.buffer.proofs.Segments.{spell, paste-seg, width-set}
+use Rattle.buffer.proofs.Segments.{spelled, spell, paste-seg, width-set}
 use Rattle.buffer.proofs.Laying.{paste-whole, length-pad}
-use Rattle.opening.specs.Open.{Order, givenBy}
+use Rattle.opening.specs.Open.{Order, begun}
 
 -- the parts as they are filled: places 0-9, intervals, parameters, house limits, rates, 31-43, counters, lengths, lists
 abbrev parts : List ℕ
@@ -53,27 +53,29 @@ rows-zero : replicate 1275 0 ≡ concat (map (pad 255) ([] ∷ [] ∷ [] ∷ [] 
 unfolding pad
 rows-zero = sym (zeroed-is (255 ∷ 255 ∷ 255 ∷ 255 ∷ 255 ∷ []))
 
-module _ (o : Order) (few : length (o .intervals) ≤ 10) (p : length (o .parameters) ≡ 32) (r : length (o .rates) ≡ 6) (k : length (o .counters) ≡ 32) where
+-- a list number by number
+pub spell-all : (l : List ℕ) (n : ℕ) → length l ≡ n → l ≡ spelled l 0 n
+spell-all l n h = sym (take-all n l (omega (arith, h))) ∙ spell l 0 n (omega (arith, h))
+
+module _ (o : Order) (few : length (o .intervals) ≤ 10) where
   abbrev head : List ℕ
   head = letters ∷ 1 ∷ o .time ∷ o .time ∷ o .imsi / 2 ^ 32 ∷ o .imsi % 2 ^ 32 ∷ o .nfm ∷ 0 ∷ o .rpm ∷ length (o .intervals) ∷ []
 
-  pub filled : {b0 b1 b2 b3 b4 : List ℕ} → b0 ≡ replicate SIZE 0
+  pub filled : (p r k : List ℕ) → length p ≡ 6 → length r ≡ 3 → length k ≡ 6 → {b0 b1 b2 b3 b4 : List ℕ}
+      → b0 ≡ replicate SIZE 0
       → b1 ≡ paste b0 LETTERS head
       → b2 ≡ paste b1 INTERVALS (pad 10 (o .intervals))
-      → b3 ≡ paste (paste (paste b2 PARAMETERS (take 6 (o .parameters))) HOUSE (o .A1 ∷ o .S1 ∷ [])) RATES (take 3 (o .rates))
-      → b4 ≡ paste b3 COUNTERS (take 6 (o .counters))
-      → b4 ≡ lay (fresh (givenBy o))
-  unfolding concat spread segments givenBy fresh
-  filled e0 e1 e2 e3 e4 =
+      → b3 ≡ paste (paste (paste b2 PARAMETERS p) HOUSE (o .A1 ∷ o .S1 ∷ [])) RATES r
+      → b4 ≡ paste b3 COUNTERS k
+      → b4 ≡ lay (fresh (begun o p r k))
+  unfolding concat spread segments begun fresh
+  filled p r k pl rl kl e0 e1 e2 e3 e4 =
       let il = length-pad 10 (o .intervals) few in
-      let pl = length-take-le 6 (o .parameters) (omega arith) in
-      let rl = length-take-le 3 (o .rates) (omega arith) in
-      let kl = length-take-le 6 (o .counters) (omega arith) in
       let c1 = whole (blank-cut e0) 0 head (lit< tt) refl (lit≤ tt) e1 in
       let c2 = whole c1 1 (pad 10 (o .intervals)) (lit< tt) il (omega arith) e2 in
-      let c3 = whole c2 2 (take 6 (o .parameters)) (lit< tt) pl (omega arith) refl in
+      let c3 = whole c2 2 p (lit< tt) pl (omega arith) refl in
       let c4 = whole c3 3 (o .A1 ∷ o .S1 ∷ []) (lit< tt) refl (lit≤ tt) refl in
-      let c5 = whole c4 4 (take 3 (o .rates)) (lit< tt) rl (omega arith) e3 in
-      let c6 = whole c5 6 (take 6 (o .counters)) (lit< tt) kl (omega arith) e4 in
+      let c5 = whole c4 4 r (lit< tt) rl (omega arith) e3 in
+      let c6 = whole c5 6 k (lit< tt) kl (omega arith) e4 in
       c6 .is
-      ∙ (λ i. concat (head ∷ pad 10 (o .intervals) ∷ spell (o .parameters) 0 6 (omega arith) i ∷ (o .A1 ∷ o .S1 ∷ []) ∷ spell (o .rates) 0 3 (omega arith) i ∷ replicate 13 0 ∷ spell (o .counters) 0 6 (omega arith) i ∷ replicate 5 0 ∷ rows-zero i ∷ []))
+      ∙ (λ i. concat (head ∷ pad 10 (o .intervals) ∷ spell-all p 6 pl i ∷ (o .A1 ∷ o .S1 ∷ []) ∷ spell-all r 3 rl i ∷ replicate 13 0 ∷ spell-all k 6 kl i ∷ replicate 5 0 ∷ rows-zero i ∷ []))

@@ -1,24 +1,32 @@
--- What is known of a new state, where opening answers 0 and the files are bytes: its limits are bytes, it is valid, and its counters are
--- the file's. Assumes nothing.
-use mathlib.Core.Path.{_≡_, refl}
+-- What is known of a new state, where opening answers 0 and the files are bytes: its limits are bytes, it is valid, and it holds what rules.
+-- Assumes nothing.
+use mathlib.Core.Path.{_≡_, refl, sym, ap, _∙_}
 use mathlib.Core.Bool.{Bool, true, false, cond, _&&_}
-use mathlib.Core.List.{List}
-use Prim.Native.Nat.{ℕ, zero, suc, _≤_}
+use mathlib.Core.List.{List, [], _∷_}
+use Prim.Native.Nat.{ℕ, zero, suc, _+_, _≤_, _<_}
 use native.Mathlib.Omega.{arith}
-use lib.Dec.{leb, eqb, lit≤}
-use lib.ListN.{length, getD}
-use borrow.Author.Tests.{leb-true}
-use Rattle.rules.specs.Calls.{Counter, C-BR-1, C-R-1, C-PDP-1, C-PDP-2, C-PDP-3, C-PDP-4}
-use Rattle.rules.specs.Tables.{highestTime, ofSix}
+use lib.Dec.{leb, eqb, lit<, lit≤}
+use lib.ListN.{length, getD, take, replicate}
+use lib.Seq.{getD-take}
+use borrow.Author.Tests.{leb-true, eq-eqb}
+use Rattle.rules.specs.declared.Answer.{Answer}
+use Rattle.rules.specs.Tables.{highestTime}
 use Rattle.rules.specs.Rules.{fresh, idle}
 use Rattle.rules.specs.Demand3.{Bytes}
 use Rattle.buffer.specs.Places.{SIZE}
+use Rattle.rules.proofs.Checks.{and-right}
+use Rattle.buffer.specs.Segments.{off}
+use Rattle.buffer.specs.Layout.{rows, segments, widths, spread, lay}
 use Rattle.buffer.specs.Good.{atMost, bytes, valid}
 use Rattle.buffer.proofs.Segments.{spelled}
-use Rattle.buffer.proofs.Goodness.{at-most}
+use Rattle.buffer.proofs.Laying.{get}
+use Rattle.buffer.proofs.Goodness.{at-most, shaped-valid}
 use Rattle.buffer.proofs.Sane.{SaneServices, facts-valid}
 use Rattle.buffer.proofs.Keep.{at-most-cons, at-most-nil, ascending-nil}
-use Rattle.opening.specs.Open.{Order, settings, files, openNumber, givenBy}
+use Rattle.card.specs.Card.{absent, pair, rulingFile, part, sixParameters, threeRates, sixCounters}
+use Rattle.card.proofs.Chosen.{part-whole}
+use Rattle.opening.specs.Open.{Order, Typed, settings, files, openNumber, begun, givenBy, openAfter, OpenSays, Ruled}
+use Rattle.opening.proofs.Filling.{spell-all}
 use Rattle.opening.proofs.Cases.{InOrder, in-order}
 
 -- an opening that passes the checks
@@ -63,16 +71,49 @@ idle-sane nfm = record {
   mood = lit≤ tt;
 }
 
-module _ (b : List ℕ) (o : Order) (accepted : openNumber b o ≡ 0) (ps : bytes (o .parameters) ≡ true) (rs : bytes (o .rates) ≡ true) (ks : bytes (o .counters) ≡ true) where
+-- the part of a file that rules is bytes, since both files are
+take-low : (hi n : ℕ) (l : List ℕ) → atMost hi l ≡ true → atMost hi (take n l) ≡ true
+unfolding atMost
+take-low hi zero l h = at-most-nil hi
+take-low hi (suc n) [] h = h
+take-low hi (suc n) (x ∷ l) h = at-most-cons hi x (take n l) (at-most hi (x ∷ l) h 0) (take-low hi n l (and-right (leb x hi) (atMost hi l) h))
+
+part-low : (long n : ℕ) (card own : List ℕ) → bytes card ≡ true → bytes own ≡ true → bytes (part long n card own) ≡ true
+unfolding part rulingFile
+part-low long n card own c m = go (pair long n card own) (absent card)
+  where
+    go : (x y : Bool) → bytes (cond x (take n (cond y own card)) []) ≡ true
+    go true true = take-low 255 n own m
+    go true false = take-low 255 n card c
+    go false y = at-most-nil 255
+
+-- the bytes of a part, one by one, are those of the file that rules
+spelled-rules : (long n : ℕ) (card own : List ℕ) → 0 < n → n ≤ long → length (part long n card own) ≡ n → (i : ℕ) → i < n
+    → getD (spelled (part long n card own) 0 n) i 0 ≡ getD (rulingFile card own) i 0
+spelled-rules long n card own some fits l i h =
+    let p = part long n card own in
+    ap (λ (x : List ℕ). getD x i 0) (sym (spell-all p n l) ∙ part-whole long n card own some fits l) ∙ getD-take n (rulingFile card own) i 0 h
+
+module _ (b : List ℕ) (o : Order) (accepted : openNumber b o ≡ 0) (t : Typed o) where
+  six-low : bytes (sixParameters (o .parameters) (o .ownParameters)) ≡ true
+  six-low = part-low 32 6 (o .parameters) (o .ownParameters) (t .parameters) (t .ownParameters)
+
+  three-low : bytes (threeRates (o .rates) (o .ownRates)) ≡ true
+  three-low = part-low 6 3 (o .rates) (o .ownRates) (t .rates) (t .ownRates)
+
+  counters-low : bytes (sixCounters (o .counters)) ≡ true
+  unfolding atMost
+  counters-low = part-low 32 6 (o .counters) (replicate 32 0) (t .counters) refl
+
   pub opened-bytes : Bytes (givenBy o .opening)
-  unfolding givenBy
+  unfolding begun
   opened-bytes =
       let f = passed b o accepted .fit in
-      let p = at-most 255 (o .parameters) ps in
+      let p = at-most 255 (sixParameters (o .parameters) (o .ownParameters)) six-low in
       record { N1 = p 0; F1 = p 2; F2 = p 3; F3 = p 4; F4 = p 5; A1 = f .A1; S1 = f .S1 }
 
   pub opened-valid : valid (fresh (givenBy o)) ≡ true
-  unfolding fresh givenBy
+  unfolding fresh begun
   opened-valid =
       let h = passed b o accepted in
       let f = h .fit in
@@ -82,26 +123,31 @@ module _ (b : List ℕ) (o : Order) (accepted : openNumber b o ≡ 0) (ps : byte
           opening = record {
             imsi = f .imsi;
             rpm = f .rpm;
-            parameters = spelled-low 255 (o .parameters) ps 0 6;
+            parameters = spelled-low 255 (sixParameters (o .parameters) (o .ownParameters)) six-low 0 6;
             house = at-most-cons 255 _ _ (f .A1) (at-most-cons 255 _ _ (f .S1) (at-most-nil 255));
-            rates = spelled-low 255 (o .rates) rs 0 3;
+            rates = spelled-low 255 (threeRates (o .rates) (o .ownRates)) three-low 0 3;
           };
           mode = record { nfm = f .nfm; start = lit≤ tt; some = f .some; few = f .few; rising = f .rising };
           late = omega arith;
           early = h .early;
-          counters = record { six = refl; small = spelled-low 255 (o .counters) ks 0 6 };
+          counters = record { six = refl; small = spelled-low 255 (sixCounters (o .counters)) counters-low 0 6 };
           services = idle-sane (o .nfm);
         };
         short = λ k. lit≤ tt;
         rising = λ k. ascending-nil (o .time) (o .time);
       })
 
--- the counters are those of the file
-pub opened-counters : (o : Order) (k : Counter) → ofSix (fresh (givenBy o) .facts .counters) k ≡ ofSix (o .counters) k
-unfolding fresh givenBy
-opened-counters o C-BR-1 = refl
-opened-counters o C-R-1 = refl
-opened-counters o C-PDP-1 = refl
-opened-counters o C-PDP-2 = refl
-opened-counters o C-PDP-3 = refl
-opened-counters o C-PDP-4 = refl
+  -- the places of the files hold what rules
+  pub opened-rules : (r : Answer) (x : List ℕ) → OpenSays b o r x → Ruled o x
+  unfolding openAfter spread segments fresh begun
+  opened-rules r x says =
+      let f = passed b o accepted .fit in
+      let v = fresh (givenBy o) in
+      let is : x ≡ lay v = says .left ∙ rw (eq-eqb (openNumber b o) 0 accepted) in
+      let at : (k i : ℕ) → i < getD widths k 0 → getD x (off widths k + i) 0 ≡ getD (getD (segments (v .facts) (rows (v .lists))) k []) i 0
+      = λ k i h. ap (λ (y : List ℕ). getD y (off widths k + i) 0) is ∙ get (v .facts) (rows (v .lists)) (shaped-valid v opened-valid) k i h in
+      record {
+        parameters = λ i h. at 7 i h ∙ spelled-rules 32 6 (o .parameters) (o .ownParameters) (lit< tt) (lit≤ tt) (f .parameters) i h;
+        rates = λ i h. at 9 i h ∙ spelled-rules 6 3 (o .rates) (o .ownRates) (lit< tt) (lit≤ tt) (f .rates) i h;
+        counters = λ i h. at 14 i h ∙ spelled-rules 32 6 (o .counters) (replicate 32 0) (lit< tt) (lit≤ tt) (f .counters) i h;
+      }

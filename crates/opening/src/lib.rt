@@ -5,13 +5,13 @@ use rules::Answer;
 ghost use mathlib.Core.Path.{_≡_};
 ghost use mathlib.Core.List.{[], _∷_};
 ghost use Prim.Native.Nat.{_+_, _/_, _%_, _^_, _≤_};
-ghost use lib.ListN.{length, getD, take, replicate};
+ghost use lib.ListN.{length, getD, replicate};
 ghost use Rattle.rules.specs.Tables.{scheduled};
 ghost use Rattle.rules.specs.Rules.{fresh};
 ghost use Rattle.buffer.specs.Places.{SIZE, LETTERS, INTERVALS, PARAMETERS, HOUSE, RATES};
 ghost use Rattle.buffer.specs.Segments.{pad, paste};
 ghost use Rattle.buffer.specs.Layout.{letters, lay};
-ghost use Rattle.opening.specs.Open.{order, settings, givenBy, OpenSays};
+ghost use Rattle.opening.specs.Open.{order, settings, begun, OpenSays};
 
 // Every place becomes 0.
 fn blank(s: &mut [u32])
@@ -34,7 +34,7 @@ fn schedule(l: &[u32]) -> bool
 
 // The settings are in range; time and files are not looked at.
 fn in_order(imsi: u64, l: &[u32], nfm: u32, rpm: u32, a1: u32, s1: u32) -> bool
-    ensures { λ r. ⌜ r ≡ settings (order 0 imsi (now (l .entry)) nfm rpm a1 s1 [] [] []) ⌝ }
+    ensures { λ r. ⌜ r ≡ settings (order 0 imsi (now (l .entry)) nfm rpm a1 s1 [] [] [] [] []) ⌝ }
 {
     (imsi <= rules::HIGHEST_IMSI)
         & schedule(l)
@@ -82,15 +82,14 @@ pub fn intervals(s: &mut [u32], l: &[u32])
     }
 }
 
-// The first n bytes of a file, to the places from a on.
-fn load(s: &mut [u32], a: usize, p: &[u8], n: usize)
+// Bytes of a file, to the places from a on.
+fn load(s: &mut [u32], a: usize, p: &[u8])
     requires { ⌜ length (now s) ≡ SIZE ⌝ }
-    requires { ⌜ a + n ≤ SIZE ⌝ }
-    requires { ⌜ n ≤ length (now p) ⌝ }
-    ensures { λ _. ⌜ now (s .exit) ≡ paste (now (s .entry)) a (take n (now (p .entry))) ⌝ }
+    requires { ⌜ a + length (now p) ≤ SIZE ⌝ }
+    ensures { λ _. ⌜ now (s .exit) ≡ paste (now (s .entry)) a (now (p .entry)) ⌝ }
 {
     let mut i: usize = 0;
-    while i < n {
+    while i < p.len() {
         s[a + i] = p[i] as u32;
         i += 1;
     }
@@ -105,18 +104,18 @@ fn house(s: &mut [u32], a1: u32, s1: u32)
     s[at::HOUSE + 1] = s1;
 }
 
-// Places 20-30: the parameters, the house limits and the leak rates.
+// Places 20-30: the six parameters, the house limits and the three leak rates.
 fn limits(s: &mut [u32], parameters: &[u8], a1: u32, s1: u32, leaks: &[u8])
     requires { ⌜ length (now s) ≡ SIZE ⌝ }
-    requires { ⌜ (6 ≤ length (now parameters)) × (3 ≤ length (now leaks)) ⌝ }
-    ensures { λ _. ⌜ now (s .exit) ≡ paste (paste (paste (now (s .entry)) PARAMETERS (take 6 (now (parameters .entry)))) HOUSE (a1 ∷ s1 ∷ [])) RATES (take 3 (now (leaks .entry))) ⌝ }
+    requires { ⌜ (length (now parameters) ≡ 6) × (length (now leaks) ≡ 3) ⌝ }
+    ensures { λ _. ⌜ now (s .exit) ≡ paste (paste (paste (now (s .entry)) PARAMETERS (now (parameters .entry))) HOUSE (a1 ∷ s1 ∷ [])) RATES (now (leaks .entry)) ⌝ }
 {
-    load(s, at::PARAMETERS, parameters, 6);
+    load(s, at::PARAMETERS, parameters);
     house(s, a1, s1);
-    load(s, at::RATES, leaks, 3);
+    load(s, at::RATES, leaks);
 }
 
-// A new buffer, of settings and files that are in order.
+// A new buffer, of settings that are in order and the bytes that rule: six parameters, three leak rates, six counters.
 fn fill(
     s: &mut [u32],
     time: u32,
@@ -133,18 +132,18 @@ fn fill(
     requires { ⌜ length (now s) ≡ SIZE ⌝ }
     requires { ⌜ imsi ≤ 999999999999999 ⌝ }
     requires { ⌜ length (now l) ≤ 10 ⌝ }
-    requires { ⌜ (length (now parameters) ≡ 32) × ((length (now leaks) ≡ 6) × (length (now counters) ≡ 32)) ⌝ }
-    ensures { λ _. ⌜ now (s .exit) ≡ lay (fresh (givenBy (order time imsi (now (l .entry)) nfm rpm a1 s1 (now (parameters .entry)) (now (leaks .entry)) (now (counters .entry))))) ⌝ }
+    requires { ⌜ (length (now parameters) ≡ 6) × ((length (now leaks) ≡ 3) × (length (now counters) ≡ 6)) ⌝ }
+    ensures { λ _. ⌜ now (s .exit) ≡ lay (fresh (begun (order time imsi (now (l .entry)) nfm rpm a1 s1 [] [] [] [] []) (now (parameters .entry)) (now (leaks .entry)) (now (counters .entry)))) ⌝ }
 {
     blank(s);
     head(s, time, imsi, nfm, rpm, l.len() as u32);
     intervals(s, l);
     limits(s, parameters, a1, s1, leaks);
-    load(s, at::COUNTERS, counters, 6);
+    load(s, at::COUNTERS, counters);
 }
 
-// Opening.
-pub fn open(
+// Opening: the settings, the card's three files, each of which may be absent, and the module's own two, which rule where the card has none.
+pub fn open<'a, 'b>(
     s: &mut [u32],
     time: u32,
     imsi: u64,
@@ -153,11 +152,13 @@ pub fn open(
     rpm: u32,
     a1: u32,
     s1: u32,
-    parameters: &[u8],
-    leaks: &[u8],
+    parameters: &'a [u8],
+    leaks: &'b [u8],
     counters: &[u8],
+    own_parameters: &'a [u8],
+    own_leaks: &'b [u8],
 ) -> Answer
-    ensures { λ x. ⌜ OpenSays (now (s .entry)) (order time imsi (now (intervals .entry)) nfm rpm a1 s1 (now (parameters .entry)) (now (leaks .entry)) (now (counters .entry))) x (now (s .exit)) ⌝ }
+    ensures { λ x. ⌜ OpenSays (now (s .entry)) (order time imsi (now (intervals .entry)) nfm rpm a1 s1 (now (parameters .entry)) (now (leaks .entry)) (now (counters .entry)) (now («own_parameters» .entry)) (now («own_leaks» .entry))) x (now (s .exit)) ⌝ }
 {
     if s.len() != at::SIZE {
         return Answer {
@@ -165,8 +166,14 @@ pub fn open(
             second: 0,
         };
     }
+    let p = card::parameters(parameters, own_parameters);
+    let r = card::rates(leaks, own_leaks);
+    let zeros = [0u8; 32];
+    let k = card::counters(counters, &zeros);
     let ok = in_order(imsi, intervals, nfm, rpm, a1, s1)
-        & card::are_files(parameters, leaks, counters);
+        & (p.len() == 6)
+        & (r.len() == 3)
+        & (k.len() == 6);
     if !ok {
         return Answer {
             number: 2,
@@ -179,19 +186,7 @@ pub fn open(
             second: 0,
         };
     }
-    fill(
-        s,
-        time,
-        imsi,
-        intervals,
-        nfm,
-        rpm,
-        a1,
-        s1,
-        parameters,
-        leaks,
-        counters,
-    );
+    fill(s, time, imsi, intervals, nfm, rpm, a1, s1, p, r, k);
     Answer {
         number: 0,
         second: 0,

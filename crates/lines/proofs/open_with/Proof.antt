@@ -2,7 +2,6 @@
 use Rattle.lines.proofs.Doing.{done-wrong, done-open}
 use Rattle.lines.specs.Held.{endingBy}
 use Rattle.lines.specs.Trace.{opensBy}
-use Prim.Native.Nat.{_-_}
 use mathlib.Core.Path.{sym, ap, _∙_}
 use borrow.Author.Needs.{needs}
 use Rattle.lines.proofs.open_with.Statement.{statement}
@@ -32,17 +31,30 @@ slice-aggregate-open-2 c = search needs
 slice-aggregate-open-3 : tie.Need-slice-aggregate-open-3
 slice-aggregate-open-3 c = search needs
 
+slice-aggregate-open-4 : tie.Need-slice-aggregate-open-4
+slice-aggregate-open-4 c = search needs
+
+slice-aggregate-open-5 : tie.Need-slice-aggregate-open-5
+slice-aggregate-open-5 c = search needs
+
 open-requires : tie.Need-open-requires
 open-requires c κs = search needs
 
 returns : tie.Need-returns
-returns c = let a = c .before .before .before .before .before .before .before .before .before .before .args in done-wrong (ap (opensBy (a .time) (a .imsi) (a .intervals .now)) (sym (c .before .before .before .before .ending .ensures) ∙ ap (endingBy (c .before .before .before .before .ending .last .1 .1 .0) (c .before .before .before .before .ending .last .1 .1 .1 .0)) (c .enum-told .given .1)))
+returns c =
+    let e = c .before .before .before .before in
+    let a = e .before .before .before .before .before .before .args in
+    done-wrong (ap (opensBy (a .time) (a .imsi) (a .intervals .now)) (sym (e .ending .ensures) ∙ ap (endingBy (e .ending .last .1 .1 .0) (e .ending .last .1 .1 .1 .0)) (c .enum-told .given .1)))
 
 same-length : tie.Need-same-length
 same-length c = search needs
 
 returns-2 : tie.Need-returns-2
-returns-2 c = let a = c .before .before .before .before .before .before .before .before .before .before .before .before .before .before .before .before .before .before .args in done-open (ap (opensBy (a .time) (a .imsi) (a .intervals .now)) (sym (c .before .before .before .before .before .before .before .before .before .before .before .before .ending .ensures) ∙ ap (endingBy (c .before .before .before .before .before .before .before .before .before .before .before .before .ending .last .1 .1 .0) (c .before .before .before .before .before .before .before .before .before .before .before .before .ending .last .1 .1 .1 .0)) (c .before .before .before .before .before .before .before .before .a1 .given .1))) (c .before .before .«open» .ensures)
+returns-2 c =
+    let d = c .before .before .before .before .before .before .before .before .before .before in
+    let e = d .before .before .before .before in
+    let a = e .before .before .before .before .before .before .args in
+    done-open (ap (opensBy (a .time) (a .imsi) (a .intervals .now)) (sym (e .ending .ensures) ∙ ap (endingBy (e .ending .last .1 .1 .0) (e .ending .last .1 .1 .1 .0)) (d .a1 .given .1))) (c .before .before .«open» .ensures)
 
 pub open-with-spec : {M : Type 1} → statement M
 open-with-spec =
@@ -56,6 +68,8 @@ open-with-spec =
     slice-aggregate-open
     slice-aggregate-open-2
     slice-aggregate-open-3
+    slice-aggregate-open-4
+    slice-aggregate-open-5
     open-requires
     returns
     same-length

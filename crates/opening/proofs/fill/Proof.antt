@@ -1,4 +1,5 @@
 -- `opening::fill` meets its contract. Assumes nothing.
+use mathlib.Core.List.{[]}
 use Rattle.opening.specs.Open.{order}
 use Rattle.opening.proofs.Filling.{filled}
 use borrow.Author.Needs.{needs}
@@ -31,8 +32,8 @@ returns c =
     let x = c .before .before .before .before .before .before .before .before .before .before .before .before .before .before .before .before .before .before .before .before .before .before .before .before .before in
     let a = x .args in
     let files = x .pre .1 .1 .1 in
-    let o = order (a .time) (a .imsi) (a .l .now) (a .nfm) (a .rpm) (a .a1) (a .s1) (a .parameters .now) (a .leaks .now) (a .counters .now) in
-    filled o (x .pre .1 .1 .0) (files .0) (files .1 .0) (files .1 .1)
+    let o = order (a .time) (a .imsi) (a .l .now) (a .nfm) (a .rpm) (a .a1) (a .s1) [] [] [] [] [] in
+    filled o (x .pre .1 .1 .0) (a .parameters .now) (a .leaks .now) (a .counters .now) (files .0) (files .1 .0) (files .1 .1)
     (c .before .before .before .before .before .before .before .before .before .before .before .before .before .before .before .before .before .before .blank .ensures)
     (c .before .before .before .before .before .before .before .before .before .before .before .before .before .before .head .ensures)
     (c .before .before .before .before .before .before .before .before .before .before .intervals .ensures)

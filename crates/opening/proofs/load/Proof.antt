@@ -1,20 +1,21 @@
 -- `opening::load` meets its contract: the bytes passed are copied. Assumes nothing.
 use mathlib.Core.Path.{_≡_, _∙_}
-use Prim.Native.Nat.{_≤_, _-_}
+use mathlib.Core.List.{List}
+use Prim.Native.Nat.{ℕ, _≤_, _-_}
 use native.Mathlib.Omega.{arith}
 use lib.ListN.{length, length-set}
 use lib.Seq as seq
-use lib.Seq.{paste-zero}
+use lib.Seq.{paste-zero, take-all}
 use Rattle.buffer.specs.Places.{SIZE}
 use Rattle.opening.proofs.Copying.{copy-next, copy-end}
 use Rattle.opening.proofs.load.Statement.{statement}
 use Rattle.opening.proofs.load.Tie as tie
 
 abbrev Inv-loop : tie.InvT-loop
-Inv-loop s₀ a p n i₀ s i = (i ≤ n) × ((length s ≡ SIZE) × (s ≡ seq.paste s₀ a p i))
+Inv-loop s₀ a p i₀ s i = (i ≤ length p) × ((length s ≡ SIZE) × (s ≡ seq.paste s₀ a p i))
 
 abbrev μ-loop : tie.MeasureT-loop
-μ-loop s₀ a p n i₀ s i = n - i
+μ-loop s₀ a p i₀ s i = length p - i
 
 loop-holds : tie.Need-loop-holds Inv-loop μ-loop
 loop-holds c = (omega arith, (omega arith, paste-zero (c .args .s .now) (c .args .a) (c .args .p .now)))
@@ -52,8 +53,9 @@ same-length c = omega arith
 returns : tie.Need-returns Inv-loop μ-loop
 returns c =
     let a = c .before .before .args in
-    let e : c .before .loop .i ≡ a .n = omega arith in
-    c .before .loop .inv .1 .1 ∙ rw e (copy-end (a .s .now) (a .p .now) (a .a) (a .n) (omega arith))
+    let p : List ℕ = a .p .now in
+    let e : c .before .loop .i ≡ length p = omega arith in
+    c .before .loop .inv .1 .1 ∙ rw e (copy-end (a .s .now) p (a .a) (length p) (omega arith) ∙ rw (take-all (length p) p (omega arith)))
 
 pub load-spec : {M : Type 1} → statement M
 load-spec =
