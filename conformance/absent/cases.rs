@@ -5,13 +5,12 @@
 #[path = "../../tests/link/gate.rs"]
 mod gate;
 
-use gate::c;
+use gate::{c, STATE};
 use std::fmt::Debug;
 use std::process::ExitCode;
 use std::str::FromStr;
 
-/// The state: how many places it has, and where those begin that are read here.
-const STATE: usize = 1330;
+/// Where the places of the state begin that are read here.
 const RPM: usize = 8;
 const PARAMETERS: usize = 20;
 const LEAK_RATES: usize = 28;

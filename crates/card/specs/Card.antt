@@ -50,7 +50,7 @@ rulingFile card own = cond (absent card) own card
 unfoldable pub part : (long n : ℕ) → (card own : List ℕ) → List ℕ
 part long n card own = cond (pair long n card own) (take n (rulingFile card own)) []
 
--- r is that part, without a copy: it begins where the file that rules begins
+-- r is that part, without a copy: it points to where the file that rules begins
 pub record IsPart (long n : ℕ) (card own r : RefT (List ℕ)) : Type 0 where
   pub begins : ptr r ≡ cond (absent (now card)) (ptr own) (ptr card)
   pub holds : now r ≡ part long n (now card) (now own)
