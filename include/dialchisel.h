@@ -25,7 +25,8 @@
  *     }
  *
  * What you owe, in every call:
- * - Each pointer is aligned for its type and valid for the number of elements that follows it. Where that number is 0, any pointer will do.
+ * - Each pointer is aligned for its type and valid for the number of elements that follows it. Where that number is 0, any pointer will do,
+ *   NULL too.
  * - No two buffers of a call overlap, unless both are const.
  * - No other thread or interrupt touches a buffer of the call until it returns; const ones may be read.
  * Nothing is owed about contents: for any numbers, bytes and lengths, every call is safe and answers exactly as written here.
@@ -47,7 +48,7 @@
 extern "C" {
 #endif
 
-/* Sizes: the state and the room of dialchisel_why in numbers, the rest in bytes. */
+/* Sizes: the state and the room of dialchisel_why in numbers, the rest in bytes. A file that the card lacks has none. */
 #define DIALCHISEL_STATE 1330         /* exactly */
 #define DIALCHISEL_RULES 8            /* exactly: a time for each bit of enum dialchisel_rule_bit */
 #define DIALCHISEL_PARAMETER_FILE 32  /* exactly: N1, T1, F1, F2, F3, F4, then zeros */
@@ -125,7 +126,8 @@ struct dialchisel_answer {
  *   time      now, in whole seconds of a clock that never goes back
  *   imsi      as a number, at most 999,999,999,999,999; it spreads the waits
  *   intervals 1 to 10 base intervals of the back-offs, in seconds
- *   nfm, rpm  0 or 1: are back-offs timed; do N1 and F1 to F4 apply
+ *   nfm, rpm  0 or 1: are back-offs timed; do N1 and F1 to F4 apply. The latter is the card's flag, or the module's own where the card
+ *             has none
  *   a1, s1    attaches and SMS permitted in an hour, at most 255; 0 is no limit
  *   params, leaks, counters  the three card files as they were read; a limit of 0 is no limit, a leak rate of 0 no leak. A file that
  *             the card lacks has the count 0
