@@ -64,10 +64,13 @@ record Fine (o : Order) : Type 0 where
   typed : Typed o
   accepted : openNumber empty o ≡ 0
 
-fine : (o : Order) → every (bytes (o .parameters) ∷ bytes (o .rates) ∷ bytes (o .counters) ∷ bytes (o .ownParameters) ∷ bytes (o .ownRates) ∷ eqb (openNumber empty o) 0 ∷ []) ≡ true → Fine o
+-- the tests that say so
+abbrev tests : Order → List Bool
+tests o = bytes (o .parameters) ∷ bytes (o .rates) ∷ bytes (o .counters) ∷ bytes (o .ownParameters) ∷ bytes (o .ownRates) ∷ eqb (openNumber empty o) 0 ∷ []
+
+fine : (o : Order) → every (tests o) ≡ true → Fine o
 fine o h =
-    let tests : List Bool = bytes (o .parameters) ∷ bytes (o .rates) ∷ bytes (o .counters) ∷ bytes (o .ownParameters) ∷ bytes (o .ownRates) ∷ eqb (openNumber empty o) 0 ∷ [] in
-    let test : (i : ℕ) → _ = λ i. pick tests i h in
+    let test : (i : ℕ) → _ = λ i. pick (tests o) i h in
     record {
       typed = record { parameters = test 0; rates = test 1; counters = test 2; ownParameters = test 3; ownRates = test 4 };
       accepted = eqb-true (openNumber empty o) 0 (test 5);
