@@ -9,7 +9,7 @@ use lib.ListN.{length, take}
 use lib.Seq.{length-take-le}
 use borrow.Author.Tests.{eqb-true, eq-eqb, ne-eqb, not-true, not-false}
 use denote.Ref.{RefT, ptr, now}
-use Rattle.card.specs.Card.{file, absent, carried, pair, rulingFile, part, IsPart}
+use Rattle.card.specs.Card.{file, absent, goodOrAbsent, bothGood, rulingFile, part, IsPart}
 
 first-true : (x y : Bool) → (x && y) ≡ true → x ≡ true
 first-true true y e = refl
@@ -24,8 +24,8 @@ file-long long n b h = eqb-true (length b) long (first-true (eqb (length b) long
 
 module _ (long n : ℕ) (card own : List ℕ) where
   -- of two good files the one that rules has its length
-  pub ruling-long : pair long n card own ≡ true → length (rulingFile card own) ≡ long
-  unfolding pair carried rulingFile
+  pub ruling-long : bothGood long n card own ≡ true → length (rulingFile card own) ≡ long
+  unfolding bothGood goodOrAbsent rulingFile
   ruling-long = go (absent card)
     where
       go : (x : Bool) → (cond x true (file long n card) && file long n own) ≡ true → length (cond x own card) ≡ long
@@ -33,11 +33,11 @@ module _ (long n : ℕ) (card own : List ℕ) where
       go false h = file-long long n card (first-true (file long n card) (file long n own) h)
 
   -- the length of its part tells whether the two are good
-  pub part-tells : 0 < n → n ≤ long → eqb (length (part long n card own)) n ≡ pair long n card own
+  pub part-tells : 0 < n → n ≤ long → eqb (length (part long n card own)) n ≡ bothGood long n card own
   unfolding part
-  part-tells some fits = go (pair long n card own) refl
+  part-tells some fits = go (bothGood long n card own) refl
     where
-      go : (x : Bool) → pair long n card own ≡ x → eqb (length (cond x (take n (rulingFile card own)) [])) n ≡ x
+      go : (x : Bool) → bothGood long n card own ≡ x → eqb (length (cond x (take n (rulingFile card own)) [])) n ≡ x
       go true e = eq-eqb _ n (length-take-le n (rulingFile card own) (omega (arith, ruling-long e)))
       go false e = ne-eqb 0 n (λ z. omega (arith, some, z))
 
@@ -48,9 +48,9 @@ module _ (long n : ℕ) (card own : List ℕ) where
 
 -- ---- References: what was chosen, and what the tests of the two files say
 
-module _ (long n : ℕ) (card own f : RefT (List ℕ)) (chosen : f ≡ cond (absent (now card)) own card) {x y : Bool} (p : x ≡ carried long n (now card)) (q : y ≡ file long n (now own)) where
-  both : {t : Bool} → (x && y) ≡ t → pair long n (now card) (now own) ≡ t
-  unfolding pair
+module _ (long n : ℕ) (card own f : RefT (List ℕ)) (chosen : f ≡ cond (absent (now card)) own card) {x y : Bool} (p : x ≡ goodOrAbsent long n (now card)) (q : y ≡ file long n (now own)) where
+  both : {t : Bool} → (x && y) ≡ t → bothGood long n (now card) (now own) ≡ t
+  unfolding bothGood
   both e = (λ i. sym p i && sym q i) ∙ e
 
   begins : ptr f ≡ cond (absent (now card)) (ptr own) (ptr card)

@@ -34,13 +34,13 @@ counterFile b = file 32 6 b
 unfoldable pub absent : List ℕ → Bool
 absent b = eqb (length b) 0
 
--- a card carries the file, as document 01 has it, or none
-unfoldable pub carried : (long n : ℕ) → List ℕ → Bool
-carried long n b = cond (absent b) true (file long n b)
+-- what a card may hand in: the file as document 01 has it, or none
+unfoldable pub goodOrAbsent : (long n : ℕ) → List ℕ → Bool
+goodOrAbsent long n b = cond (absent b) true (file long n b)
 
 -- the two are good: the card's, if there is one, and the module's, used or not
-unfoldable pub pair : (long n : ℕ) → (card own : List ℕ) → Bool
-pair long n card own = carried long n card && file long n own
+unfoldable pub bothGood : (long n : ℕ) → (card own : List ℕ) → Bool
+bothGood long n card own = goodOrAbsent long n card && file long n own
 
 -- the file that rules: the card's, or the module's where the card has none
 unfoldable pub rulingFile : (card own : List ℕ) → List ℕ
@@ -48,7 +48,7 @@ rulingFile card own = cond (absent card) own card
 
 -- its first n bytes, or none where either file is bad
 unfoldable pub part : (long n : ℕ) → (card own : List ℕ) → List ℕ
-part long n card own = cond (pair long n card own) (take n (rulingFile card own)) []
+part long n card own = cond (bothGood long n card own) (take n (rulingFile card own)) []
 
 -- r is that part, without a copy: it points to where the file that rules begins
 pub record IsPart (long n : ℕ) (card own r : RefT (List ℕ)) : Type 0 where

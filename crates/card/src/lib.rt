@@ -4,7 +4,7 @@ ghost use mathlib.Core.Path.{_≡_};
 ghost use mathlib.Core.Bool.{cond};
 ghost use Prim.Native.Nat.{_≤_};
 ghost use lib.ListN.{length, replicate};
-ghost use Rattle.card.specs.Card.{blank, file, absent, carried, IsPart, written};
+ghost use Rattle.card.specs.Card.{blank, file, absent, goodOrAbsent, IsPart, written};
 
 // Every byte is 0.
 fn is_blank(p: &[u8]) -> bool
@@ -31,9 +31,9 @@ fn is_file(p: &[u8], long: usize, n: usize) -> bool
 }
 
 // A file that the card may lack: absent, or a file of so many bytes, the first n used and every other 0.
-fn is_carried(p: &[u8], long: usize, n: usize) -> bool
+fn is_good_or_absent(p: &[u8], long: usize, n: usize) -> bool
     requires { ⌜ n ≤ long ⌝ }
-    ensures { λ r. ⌜ r ≡ carried long n (now (p .entry)) ⌝ }
+    ensures { λ r. ⌜ r ≡ goodOrAbsent long n (now (p .entry)) ⌝ }
 {
     if p.len() == 0 {
         return true;
@@ -57,7 +57,7 @@ fn part<'a>(card: &'a [u8], own: &'a [u8], long: usize, n: usize) -> &'a [u8]
     ensures { λ r. ⌜ IsPart long n (card .entry) (own .entry) r ⌝ }
 {
     let file = ruling_file(card, own);
-    let good = is_carried(card, long, n) & is_file(own, long, n);
+    let good = is_good_or_absent(card, long, n) & is_file(own, long, n);
     if !good {
         return &file[..0];
     }

@@ -19,7 +19,7 @@ use Rattle.buffer.specs.Good.{atMost, bytes, every, valid}
 use Rattle.buffer.proofs.Tests.{pick}
 use Rattle.buffer.proofs.Goodness.{view-lay-valid}
 use Rattle.buffer.proofs.Keep.{keep}
-use Rattle.card.specs.Card.{blank, file, absent, carried, pair, rulingFile, part, written}
+use Rattle.card.specs.Card.{blank, file, absent, goodOrAbsent, bothGood, rulingFile, part, written}
 use Rattle.clock.specs.Call.{callAfter}
 use Rattle.opening.specs.Open.{Order, Typed, settings, files, openNumber, begun, givenBy, openAfter}
 use Rattle.opening.proofs.Opened.{opened-bytes, opened-valid}
@@ -36,7 +36,7 @@ seen-ran : (c : Case) → seenOverRecord c ≡ ran c
 seen-ran c i = let g = givenBy (c .from) in record { given = sym (answers-told g (c .calls)) i; pdp1 = sym (as-told g (c .calls) .counters C-PDP-1) i }
 
 computed : map ran cases ≡ expected
-unfolding begun part pair carried absent file blank rulingFile within action moodOn waitFor limits blocks inRange stands refusal runs wait failed verdict ruling points moved counted asked onGranted onFailed acted switched obeyed changed onto adds learn fresh
+unfolding begun part bothGood goodOrAbsent absent file blank rulingFile within action moodOn waitFor limits blocks inRange stands refusal runs wait failed verdict ruling points moved counted asked onGranted onFailed acted switched obeyed changed onto adds learn fresh
 computed = refl
 
 pub figures-over-the-record : map seenOverRecord cases ≡ expected
@@ -118,7 +118,7 @@ all-same [] h = refl
 all-same (c ∷ cs) h = λ i. same c (h .0) i ∷ all-same cs (h .1) i
 
 all-fine : AllFine cases
-unfolding atMost openNumber settings files pair carried absent file blank ascending
+unfolding atMost openNumber settings files bothGood goodOrAbsent absent file blank ascending
 all-fine =
     (fine _ refl, (fine _ refl, (fine _ refl, (fine _ refl, (fine _ refl, (fine _ refl, (fine _ refl, (fine _ refl, (fine _ refl, (fine _ refl, tt))))))))))
 

@@ -13,7 +13,7 @@ use Rattle.buffer.specs.Places.{SIZE}
 use Rattle.buffer.specs.Layout.{lay}
 use Rattle.rules.proofs.Checks.{and-left, and-right}
 use Rattle.buffer.proofs.Tests.{both, pick}
-use Rattle.card.specs.Card.{carried, pair, sixParameters, threeRates, sixCounters}
+use Rattle.card.specs.Card.{goodOrAbsent, bothGood, sixParameters, threeRates, sixCounters}
 use Rattle.card.proofs.Chosen.{part-tells}
 use Rattle.card.proofs.OnePart.{zero-counters-are-file}
 use Rattle.opening.specs.Open.{Order, order, settings, files, openNumber, begun, givenBy, openAfter, OpenSays}
@@ -29,15 +29,15 @@ module _ (o : Order) where
   abbrev K : List ℕ
   K = sixCounters (o .counters)
 
-  six : eqb (length P) 6 ≡ pair 32 6 (o .parameters) (o .ownParameters)
+  six : eqb (length P) 6 ≡ bothGood 32 6 (o .parameters) (o .ownParameters)
   six = part-tells 32 6 (o .parameters) (o .ownParameters) (lit< tt) (lit≤ tt)
 
-  three : eqb (length Q) 3 ≡ pair 6 3 (o .rates) (o .ownRates)
+  three : eqb (length Q) 3 ≡ bothGood 6 3 (o .rates) (o .ownRates)
   three = part-tells 6 3 (o .rates) (o .ownRates) (lit< tt) (lit≤ tt)
 
-  counted : eqb (length K) 6 ≡ carried 32 6 (o .counters)
-  unfolding pair
-  counted = part-tells 32 6 (o .counters) (replicate 32 0) (lit< tt) (lit≤ tt) ∙ rw zero-counters-are-file (and-true (carried 32 6 (o .counters)))
+  counted : eqb (length K) 6 ≡ goodOrAbsent 32 6 (o .counters)
+  unfolding bothGood
+  counted = part-tells 32 6 (o .counters) (replicate 32 0) (lit< tt) (lit≤ tt) ∙ rw zero-counters-are-file (and-true (goodOrAbsent 32 6 (o .counters)))
 
   -- the tests of settings and of files, as the code makes them
   pub tested : {r : Bool} {p q k : List ℕ} → r ≡ settings (order 0 (o .imsi) (o .intervals) (o .nfm) (o .rpm) (o .A1) (o .S1) [] [] [] [] [])
@@ -46,7 +46,7 @@ module _ (o : Order) where
   unfolding settings files
   tested {r} e f g h = rw (f, g, h, six, three, counted) (go r ∙ both e refl)
     where
-      go : (x : Bool) → (x && pair 32 6 (o .parameters) (o .ownParameters) && pair 6 3 (o .rates) (o .ownRates) && carried 32 6 (o .counters)) ≡ (x && files o)
+      go : (x : Bool) → (x && bothGood 32 6 (o .parameters) (o .ownParameters) && bothGood 6 3 (o .rates) (o .ownRates) && goodOrAbsent 32 6 (o .counters)) ≡ (x && files o)
       go true = refl
       go false = refl
 
@@ -74,7 +74,7 @@ unfolding settings files
 in-order o h =
     let l = o .intervals in
     let tests : List Bool = leb (o .imsi) 999999999999999 ∷ scheduled l ∷ leb (o .nfm) 1 ∷ leb (o .rpm) 1 ∷ leb (o .A1) 255 ∷ leb (o .S1) 255 ∷ [] in
-    let shapes : List Bool = pair 32 6 (o .parameters) (o .ownParameters) ∷ pair 6 3 (o .rates) (o .ownRates) ∷ carried 32 6 (o .counters) ∷ [] in
+    let shapes : List Bool = bothGood 32 6 (o .parameters) (o .ownParameters) ∷ bothGood 6 3 (o .rates) (o .ownRates) ∷ goodOrAbsent 32 6 (o .counters) ∷ [] in
     let test : (i : ℕ) → _ = λ i. pick tests i (and-left (settings o) (files o) h) in
     let shape : (i : ℕ) → _ = λ i. pick shapes i (and-right (settings o) (files o) h) in
     let count = and-left (leb 1 (length l) && leb (length l) 10) _ (test 1) in

@@ -23,7 +23,7 @@ use Rattle.buffer.proofs.Laying.{get}
 use Rattle.buffer.proofs.Goodness.{at-most, shaped-valid}
 use Rattle.buffer.proofs.Sane.{SaneServices, facts-valid}
 use Rattle.buffer.proofs.Keep.{at-most-cons, at-most-nil, ascending-nil}
-use Rattle.card.specs.Card.{absent, pair, rulingFile, part, sixParameters, threeRates, sixCounters}
+use Rattle.card.specs.Card.{absent, bothGood, rulingFile, part, sixParameters, threeRates, sixCounters}
 use Rattle.card.proofs.Chosen.{part-whole}
 use Rattle.opening.specs.Open.{Order, Typed, settings, files, openNumber, begun, givenBy, openAfter, OpenSays, Ruled}
 use Rattle.opening.proofs.Filling.{spell-all}
@@ -80,7 +80,7 @@ take-low hi (suc n) (x ∷ l) h = at-most-cons hi x (take n l) (at-most hi (x �
 
 part-low : (long n : ℕ) (card own : List ℕ) → bytes card ≡ true → bytes own ≡ true → bytes (part long n card own) ≡ true
 unfolding part rulingFile
-part-low long n card own c m = go (pair long n card own) (absent card)
+part-low long n card own c m = go (bothGood long n card own) (absent card)
   where
     go : (x y : Bool) → bytes (cond x (take n (cond y own card)) []) ≡ true
     go true true = take-low 255 n own m

@@ -12,7 +12,7 @@ use Rattle.rules.specs.Rules.{fresh}
 use Rattle.buffer.specs.Places.{SIZE, PARAMETERS, RATES, COUNTERS}
 use Rattle.buffer.specs.Layout.{lay}
 use Rattle.buffer.specs.Good.{bytes}
-use Rattle.card.specs.Card.{carried, pair, rulingFile, sixParameters, threeRates, sixCounters}
+use Rattle.card.specs.Card.{goodOrAbsent, bothGood, rulingFile, sixParameters, threeRates, sixCounters}
 
 -- what opening is given: the time, IMSI, intervals, NFM, RPM, A1, S1, the card's three files, and the module's own two
 pub record Order : Type 0 where
@@ -48,7 +48,7 @@ settings o =
 
 -- each of the card's files is good or absent, and the module's own are good
 unfoldable pub files : Order → Bool
-files o = pair 32 6 (o .parameters) (o .ownParameters) && pair 6 3 (o .rates) (o .ownRates) && carried 32 6 (o .counters)
+files o = bothGood 32 6 (o .parameters) (o .ownParameters) && bothGood 6 3 (o .rates) (o .ownRates) && goodOrAbsent 32 6 (o .counters)
 
 -- the first check that fails: 1 length of the state, 2 settings and files, 3 time; 0 if none
 unfoldable pub openNumber : List ℕ → Order → ℕ

@@ -9,8 +9,8 @@ use Rattle.card.proofs.part.Tie as tie
 ruling-file-requires : tie.Need-ruling-file-requires
 ruling-file-requires c κs = search needs
 
-is-carried-requires : tie.Need-is-carried-requires
-is-carried-requires c κs = search needs
+is-good-or-absent-requires : tie.Need-is-good-or-absent-requires
+is-good-or-absent-requires c κs = search needs
 
 is-file-requires : tie.Need-is-file-requires
 is-file-requires c κs = search needs
@@ -22,27 +22,27 @@ returns : tie.Need-returns
 returns c =
     let d = c .before .before in
     let a = d .before .before .before .before .before .args in
-    no-part (a .long) (a .n) (a .card) (a .own) _ (d .before .before .ruling-file .ensures) (d .before .is-carried .ensures) (d .is-file .ensures) (c .before .if1 .taken) _ refl refl
+    no-part (a .long) (a .n) (a .card) (a .own) _ (d .before .before .ruling-file .ensures) (d .before .is-good-or-absent .ensures) (d .is-file .ensures) (c .before .if1 .taken) _ refl refl
 
 slice-aggregate-result-2 : tie.Need-slice-aggregate-result-2
 slice-aggregate-result-2 c =
     let d = c .before .before in
     let s = d .before .before .before .before .before in
     let a = s .args in
-    sym (length-take-le _ _ (long-enough (a .long) (a .n) (a .card) (a .own) _ (d .before .before .ruling-file .ensures) (d .before .is-carried .ensures) (d .is-file .ensures) (s .pre) (c .before .if1 .left)))
+    sym (length-take-le _ _ (long-enough (a .long) (a .n) (a .card) (a .own) _ (d .before .before .ruling-file .ensures) (d .before .is-good-or-absent .ensures) (d .is-file .ensures) (s .pre) (c .before .if1 .left)))
 
 returns-2 : tie.Need-returns-2
 returns-2 c =
     let d = c .before .before in
     let a = d .before .before .before .before .before .args in
-    is-part (a .long) (a .n) (a .card) (a .own) _ (d .before .before .ruling-file .ensures) (d .before .is-carried .ensures) (d .is-file .ensures) (c .before .if1 .left) _ refl refl
+    is-part (a .long) (a .n) (a .card) (a .own) _ (d .before .before .ruling-file .ensures) (d .before .is-good-or-absent .ensures) (d .is-file .ensures) (c .before .if1 .left) _ refl refl
 
 pub part-spec : {M : Type 1} → statement M
 part-spec =
     tie.close
     (tie.spec
     ruling-file-requires
-    is-carried-requires
+    is-good-or-absent-requires
     is-file-requires
     slice-aggregate-result
     returns
