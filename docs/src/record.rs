@@ -1,5 +1,6 @@
 //! The trace program of document 01, answered from the full record: the time of every permit since the last accepted opening stays in memory,
-//! none goes at 255, and each limit counts over these. Written from document 01 alone, to be read beside it, section by section.
+//! none goes at 255, and each limit counts over these. Written from document 01, and for the wait from request §3, and from nothing else, to be
+//! read beside it, section by section.
 //! It goes from standard input to standard output: `rustc -O --edition 2021 docs/src/record.rs -o record && ./record < trace`.
 use std::io::{self, BufRead, Read, Write};
 
@@ -68,6 +69,15 @@ fn good_intervals(intervals: &[u64]) -> bool {
 /// The permits in the hour of t. No time is above t, so the newest are looked at until one is out of the hour.
 fn in_the_hour(list: &[u64], t: u64) -> u64 {
     list.iter().rev().take_while(|&&p| p + HOUR > t).count() as u64
+}
+
+/// x of request §3: from the IMSI and n failures, by three steps of 64 bits.
+fn drawn(imsi: u64, n: u64) -> u64 {
+    let mut x = imsi * 16 + n.min(15);
+    x ^= x << 13;
+    x ^= x >> 7;
+    x ^= x << 17;
+    x
 }
 
 impl Record {
@@ -217,7 +227,7 @@ impl Record {
         }
         let n = 255.min(self.failures[service as usize] + 1);
         let b = self.intervals[self.intervals.len().min(n as usize) - 1];
-        let wait = b + self.imsi % b;
+        let wait = b + drawn(self.imsi, n) % b;
         self.failures[service as usize] = n;
         self.ends[service as usize] = t + wait;
         (20, wait)

@@ -48,7 +48,8 @@ impl Bench {
         }
     }
 
-    /// The document's own figures, on both: C1 to C10 and the printed example. In each, at most one rule stands against a request.
+    /// The document's own figures, on both: C1 to C10 and the printed example, with the waits of request 3. In each, at most one rule
+    /// stands against a request.
     fn figures(&mut self) {
         let ask = |time, kind| Call::Request { time, kind };
         let grant = |time, service| Call::Granted { time, service };
@@ -57,13 +58,13 @@ impl Bench {
         let with = |params: &[u8]| Opening { params: file(32, params), ..plain.clone() };
 
         let mut c1 = self.opened(&plain);
-        for (time, wait) in [(0, 89), (1000, 149), (2000, 389), (3000, 389)] {
+        for (time, wait) in [(0, 103), (1000, 152), (2000, 273), (3000, 438)] {
             self.figure(&mut c1, ask(time, 0), (0, 0));
             self.figure(&mut c1, reject(time, 0, 3), (20, wait));
         }
         let mut printed = self.opened(&Opening { time: 1000, s1: 2, ..plain.clone() });
-        let rows = [(ask(1000, 2), 0, 0), (reject(1010, 2, 26), 20, 89), (ask(1098, 2), 10, 1), (ask(1099, 2), 0, 0)];
-        for (call, number, second) in rows.into_iter().chain([(grant(1100, 2), 0, 0), (ask(1101, 2), 4, 0)]) {
+        let rows = [(ask(1000, 2), 0, 0), (reject(1010, 2, 26), 20, 103), (ask(1112, 2), 10, 1), (ask(1113, 2), 0, 0)];
+        for (call, number, second) in rows.into_iter().chain([(grant(1114, 2), 0, 0), (ask(1115, 2), 4, 0)]) {
             self.figure(&mut printed, call, (number, second));
         }
         let mut c4 = self.opened(&Opening { s1: 2, ..plain.clone() });

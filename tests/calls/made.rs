@@ -82,9 +82,11 @@ impl Bench {
         bytes
     }
 
+    /// Any IMSI, the classroom's with two more of its row, which are 240 apart, and edges.
     fn imsi(&mut self) -> u64 {
         let any = self.random.below(LARGEST_IMSI + 1);
-        self.random.pick(&[any, any, 1_010_123_456_789, 0, 65_534, (1 << 32) - 1, 1 << 32, LARGEST_IMSI])
+        let first = 1_010_123_456_789;
+        self.random.pick(&[any, any, first, first + 240, first + 480, 0, 65_534, (1 << 32) - 1, 1 << 32, LARGEST_IMSI])
     }
 
     pub fn intervals(&mut self) -> Vec<u32> {
@@ -105,7 +107,7 @@ impl Bench {
         s[START_TIMER] = random.number(2);
         s[MOOD] = random.number(4);
         for service in 0..4 {
-            s[FAILURES + service] = random.pick(&[0, 1, 2, 9, 10, 254, 255]);
+            s[FAILURES + service] = random.pick(&[0, 1, 2, 9, 10, 13, 14, 15, 254, 255]);
             s[STANDINGS + service] = random.number(if service == 2 { 3 } else { 2 });
             let near = s[LAST] + random.number(200);
             let barred = s[NFM] == 0 || s[STANDINGS + service] == UP;

@@ -1,6 +1,6 @@
-//! A model of the ten calls on the buffer of 1,330 numbers, written from document 01 and from the customer's requests, §1 for `why` and §2
-//! for the files of an opening, and from nothing else. It is plain and slow on purpose: each part names the heading that it follows, to be
-//! read beside it. It never panics, whatever it is given.
+//! A model of the ten calls on the buffer of 1,330 numbers, written from document 01 and from the customer's requests, §1 for `why`, §2 for
+//! the files of an opening and §3 for the wait, and from nothing else. It is plain and slow on purpose: each part names the heading that it
+//! follows, to be read beside it. It never panics, whatever it is given.
 #![forbid(unsafe_code)]
 
 /// The two numbers given back.
@@ -431,10 +431,19 @@ fn back_off(s: &mut [u32], time: u32, service: u32) -> Answer {
     }
     let failures = (s[FAILURES + service as usize] + 1).min(255);
     let base = s[INTERVALS - 1 + failures.min(s[INTERVAL_COUNT]) as usize];
-    let wait = base + (imsi(s) % u64::from(base)) as u32;
+    let wait = base + (drawn(imsi(s), failures) % u64::from(base)) as u32;
     s[FAILURES + service as usize] = failures;
     s[ENDS + service as usize] = time + wait;
     (20, wait)
+}
+
+/// §3: "Take x as IMSI x 16 plus the smaller of n and 15; then x becomes x xor (x shifted left 13), x xor (x shifted right 7), x xor (x
+/// shifted left 17), each kept to 64 bits".
+fn drawn(imsi: u64, n: u32) -> u64 {
+    let start = imsi * 16 + u64::from(n.min(15));
+    let left = start ^ start << 13;
+    let right = left ^ left >> 7;
+    right ^ right << 17
 }
 
 /// "Dropped needs service 2 up and makes it idle."

@@ -45,7 +45,7 @@ pub fn full(random: &mut Random, kind: u32, mood: u32, rpm: u32, bits: u32, sent
     for (rule, (_, limit)) in RULES.into_iter().enumerate() {
         let stands = bits >> rule & 1 == 1;
         match limit {
-            None if stands => s[ENDS..ENDS + 4].fill(random.pick(&[now + 1, now + 89, LATEST_END])),
+            None if stands => s[ENDS..ENDS + 4].fill(random.pick(&[now + 1, now + 103, LATEST_END])),
             None => s[ENDS..ENDS + 4].fill(random.pick(&[0, 1, now])),
             Some((place, _)) if stands => s[place] = random.pick(&[1, sent.div_ceil(2), sent, sent]),
             Some((place, _)) => s[place] = random.pick(&[0, (sent + 1) % 256]),

@@ -41,21 +41,21 @@ static struct dialchisel_answer opened(size_t state_count, uint64_t imsi, size_t
                            counters, DIALCHISEL_COUNTER_FILE, own_params, DIALCHISEL_PARAMETER_FILE, zeros, DIALCHISEL_LEAK_FILE);
 }
 
-/* The printed example of document 01. */
+/* The printed example of document 01, with the wait of request 3. */
 static void example(void)
 {
     same("O", opened(count, 1010123456789u, DIALCHISEL_LEAK_FILE), DIALCHISEL_DONE, 0);
     same("Q 1000 2", dialchisel_request(state, count, 1000, DIALCHISEL_PDP_ACTIVATION), DIALCHISEL_DONE, 0);
-    same("J 1010 2 26 0", dialchisel_rejected(state, count, 1010, DIALCHISEL_PDP, 26, 0), DIALCHISEL_BACKED_OFF, 89);
-    same("Q 1098 2", dialchisel_request(state, count, 1098, DIALCHISEL_PDP_ACTIVATION), DIALCHISEL_BLOCKED_BACKOFF, 1);
-    same("Q 1099 2", dialchisel_request(state, count, 1099, DIALCHISEL_PDP_ACTIVATION), DIALCHISEL_DONE, 0);
-    same("G 1100 2", dialchisel_granted(state, count, 1100, DIALCHISEL_PDP), DIALCHISEL_DONE, 0);
-    same("Q 1101 2", dialchisel_request(state, count, 1101, DIALCHISEL_PDP_ACTIVATION), DIALCHISEL_REFUSED_STANDING, 0);
+    same("J 1010 2 26 0", dialchisel_rejected(state, count, 1010, DIALCHISEL_PDP, 26, 0), DIALCHISEL_BACKED_OFF, 103);
+    same("Q 1112 2", dialchisel_request(state, count, 1112, DIALCHISEL_PDP_ACTIVATION), DIALCHISEL_BLOCKED_BACKOFF, 1);
+    same("Q 1113 2", dialchisel_request(state, count, 1113, DIALCHISEL_PDP_ACTIVATION), DIALCHISEL_DONE, 0);
+    same("G 1114 2", dialchisel_granted(state, count, 1114, DIALCHISEL_PDP), DIALCHISEL_DONE, 0);
+    same("Q 1115 2", dialchisel_request(state, count, 1115, DIALCHISEL_PDP_ACTIVATION), DIALCHISEL_REFUSED_STANDING, 0);
 
-    is("last time", state[DIALCHISEL_PLACE_LAST] == 1100);
+    is("last time", state[DIALCHISEL_PLACE_LAST] == 1114);
     is("PDP is up", state[DIALCHISEL_PLACE_STANDINGS + DIALCHISEL_PDP] == 2);
     is("two activations", state[DIALCHISEL_PLACE_LENGTHS + DIALCHISEL_LIST_ACTIVATION] == 2);
-    is("the newest", state[DIALCHISEL_PLACE_LISTS + 255 * DIALCHISEL_LIST_ACTIVATION + 1] == 1099);
+    is("the newest", state[DIALCHISEL_PLACE_LISTS + 255 * DIALCHISEL_LIST_ACTIVATION + 1] == 1113);
 }
 
 /* Each refusal, and that none of them changes the state. */
@@ -68,20 +68,20 @@ static void refusals(void)
     memcpy(before, state, sizeof before);
     memcpy(times, sevens, sizeof times);
     same("short state", opened(count - 1, 1, DIALCHISEL_LEAK_FILE), DIALCHISEL_REFUSED_BUFFER, 0);
-    same("no state", dialchisel_tick(NULL, 0, 1100), DIALCHISEL_REFUSED_BUFFER, 0);
+    same("no state", dialchisel_tick(NULL, 0, 1114), DIALCHISEL_REFUSED_BUFFER, 0);
     same("small AT room", dialchisel_command(state, count, (const uint8_t *)"AT+NFM=?\r", 9, room, 15), DIALCHISEL_REFUSED_BUFFER, 0);
     same("wrong counter room", dialchisel_counters(state, count, room, 31), DIALCHISEL_REFUSED_BUFFER, 0);
     same("IMSI too large", opened(count, 1000000000000000u, DIALCHISEL_LEAK_FILE), DIALCHISEL_REFUSED_RANGE, 0);
     same("leak rate file too long", opened(count, 1, DIALCHISEL_LEAK_FILE + 1), DIALCHISEL_REFUSED_RANGE, 0);
-    same("no such kind", dialchisel_request(state, count, 1100, 6), DIALCHISEL_REFUSED_RANGE, 0);
-    same("no such service", dialchisel_silent(state, count, 1100, 4), DIALCHISEL_REFUSED_RANGE, 0);
-    same("time went back", dialchisel_tick(state, count, 1099), DIALCHISEL_REFUSED_TIME, 0);
+    same("no such kind", dialchisel_request(state, count, 1114, 6), DIALCHISEL_REFUSED_RANGE, 0);
+    same("no such service", dialchisel_silent(state, count, 1114, 4), DIALCHISEL_REFUSED_RANGE, 0);
+    same("time went back", dialchisel_tick(state, count, 1113), DIALCHISEL_REFUSED_TIME, 0);
     same("time too late", dialchisel_dropped(state, count, DIALCHISEL_LATEST + 1), DIALCHISEL_REFUSED_TIME, 0);
     same("no CR", dialchisel_command(state, count, (const uint8_t *)"AT+NFM=1", 8, room, sizeof room), DIALCHISEL_REFUSED_LINE, 0);
     same("no line", dialchisel_command(state, count, NULL, 0, room, sizeof room), DIALCHISEL_REFUSED_LINE, 0);
-    same("seven times", dialchisel_why(state, count, 1100, DIALCHISEL_MODULE_RESET, times, 7), DIALCHISEL_REFUSED_BUFFER, 0);
-    same("why, no such kind", dialchisel_why(state, count, 1100, 6, times, DIALCHISEL_RULES), DIALCHISEL_REFUSED_RANGE, 0);
-    same("why, PDP is up", dialchisel_why(state, count, 1100, DIALCHISEL_PDP_ACTIVATION, times, DIALCHISEL_RULES),
+    same("seven times", dialchisel_why(state, count, 1114, DIALCHISEL_MODULE_RESET, times, 7), DIALCHISEL_REFUSED_BUFFER, 0);
+    same("why, no such kind", dialchisel_why(state, count, 1114, 6, times, DIALCHISEL_RULES), DIALCHISEL_REFUSED_RANGE, 0);
+    same("why, PDP is up", dialchisel_why(state, count, 1114, DIALCHISEL_PDP_ACTIVATION, times, DIALCHISEL_RULES),
          DIALCHISEL_REFUSED_STANDING, 0);
     is("refusals change nothing", memcmp(before, state, sizeof before) == 0);
     is("refusals tell no times", memcmp(sevens, times, sizeof times) == 0);

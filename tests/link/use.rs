@@ -21,15 +21,15 @@ impl Seen {
     }
 }
 
-/// The printed example of document 01.
+/// The printed example of document 01, with the wait of request 3.
 fn example(seen: &mut Seen, gate: &mut Gate) {
     let done = Verdict::Done(0);
     seen.same("first request", gate.request(1000, Request::PdpActivation), done);
-    seen.same("rejected", gate.rejected(1010, Service::Pdp, 26, false), Verdict::Advice(Advice::BackedOff(89)));
-    seen.same("a second too early", gate.request(1098, Request::PdpActivation), Verdict::Blocked(Block::BackOff(1)));
-    seen.same("in time", gate.request(1099, Request::PdpActivation), done);
-    seen.same("granted", gate.granted(1100, Service::Pdp), done);
-    seen.same("asked while up", gate.request(1101, Request::PdpActivation), Verdict::Refused(Refusal::Standing));
+    seen.same("rejected", gate.rejected(1010, Service::Pdp, 26, false), Verdict::Advice(Advice::BackedOff(103)));
+    seen.same("a second too early", gate.request(1112, Request::PdpActivation), Verdict::Blocked(Block::BackOff(1)));
+    seen.same("in time", gate.request(1113, Request::PdpActivation), done);
+    seen.same("granted", gate.granted(1114, Service::Pdp), done);
+    seen.same("asked while up", gate.request(1115, Request::PdpActivation), Verdict::Refused(Refusal::Standing));
 }
 
 /// Refusals change nothing; a damaged state is refused, a saved one goes on.
@@ -38,16 +38,16 @@ fn refusals(seen: &mut Seen, gate: &mut Gate, settings: &Settings) {
     let wrong = Settings { imsi: 1_000_000_000_000_000, ..*settings };
     seen.same("IMSI too large", gate.reopen(&wrong), Verdict::Refused(Refusal::Range));
     seen.same("no intervals", gate.reopen(&Settings { intervals: &[], ..*settings }), Verdict::Refused(Refusal::Range));
-    seen.same("time went back", gate.tick(1099), Verdict::Refused(Refusal::Time));
-    seen.same("nothing asked", gate.silent(1101, Service::Sms), Verdict::Refused(Refusal::Standing));
+    seen.same("time went back", gate.tick(1113), Verdict::Refused(Refusal::Time));
+    seen.same("nothing asked", gate.silent(1115, Service::Sms), Verdict::Refused(Refusal::Standing));
     seen.same("lower case", gate.command(b"at+nfm=1\r", &mut [0; 16]), Verdict::Refused(Refusal::Line));
     seen.same("small room", gate.command(b"AT+NFM=?\r", &mut [0; 15]), Verdict::Refused(Refusal::Buffer));
     seen.same("refusals change nothing", *gate.state() == before, true);
 
     let mut damaged = before;
     damaged[1] = 2;
-    seen.same("damaged", Gate::restored(damaged).dropped(1101), Verdict::Refused(Refusal::Buffer));
-    seen.same("saved", Gate::restored(before).dropped(1101), Verdict::Done(0));
+    seen.same("damaged", Gate::restored(damaged).dropped(1115), Verdict::Refused(Refusal::Buffer));
+    seen.same("saved", Gate::restored(before).dropped(1115), Verdict::Done(0));
 }
 
 /// Every other request and service, by turns.
@@ -60,7 +60,7 @@ fn others(seen: &mut Seen, gate: &mut Gate) {
         seen.same("asked", gate.request(2000, request), done);
         seen.same("granted", gate.granted(2000, service), done);
         seen.same("asked again", gate.request(2000, request), done);
-        seen.same("silence", gate.silent(2000, service), Verdict::Advice(Advice::BackedOff(89)));
+        seen.same("silence", gate.silent(2000, service), Verdict::Advice(Advice::BackedOff(103)));
     }
     seen.same("reset", gate.request(2000, Request::ModuleReset), done);
     why(seen, gate);

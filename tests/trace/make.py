@@ -13,6 +13,14 @@ PERMANENT = {8, 27, 28, 29, 32, 33}
 LISTS = ((0,), (0,), (1, 2), (3,), (2,), (4,))  # by request: attach 0, activation 1, PDP 2, SMS 3, reset 4
 
 
+def drawn(imsi, n):
+    """The number of request 3 whose remainder spreads the waits."""
+    x = imsi * 16 + min(n, 15)
+    for shifted in (lambda x: x << 13, lambda x: x >> 7, lambda x: x << 17):
+        x = (x ^ shifted(x)) % 2**64
+    return x
+
+
 class Idea:
     """Where a trace stands. It steers the generator and judges no answer."""
 
@@ -66,7 +74,7 @@ class Idea:
         if self.nfm:
             n = self.failures[service] = min(255, self.failures[service] + 1)
             b = self.intervals[min(n, len(self.intervals)) - 1]
-            self.ends[service] = t + b + self.imsi % b
+            self.ends[service] = t + b + drawn(self.imsi, n) % b
 
     def dropped(self, t):
         if self.t <= t <= LATEST and self.standing[2] == 2:
@@ -403,7 +411,7 @@ class Maker:
         self.edges = r.choice((0.0, 0.2, 0.2, 0.4, 0.6))
         self.ill = r.choice((0.0, 0.0, 0.05, 0.08, 0.3))
         self.at = r.choice((0.0, 0.03, 0.03, 0.2))
-        self.steps = r.choice(((0, 0, 0, 1), (0, 0, 1, 1, 2, 3, 5, 10), (0, 1, 2, 29, 60, 61, 89, 120), (0, 1, 60, 600, 1199, 1800),
+        self.steps = r.choice(((0, 0, 0, 1), (0, 0, 1, 1, 2, 3, 5, 10), (0, 1, 2, 43, 60, 61, 103, 120), (0, 1, 60, 600, 1199, 1800),
                                (0, 1, 3599, 3600, 7200)))
 
     def plain(self):

@@ -286,12 +286,12 @@ impl Maker {
         printed.open(1000, 1_010_123_456_789, [0; 6], 0, 2);
         printed.ask(1000, 2);
         printed.reject(1010, 2, 26, 0);
-        self.trace("back-off", &printed, &[(1098, 2), (1099, 2), (1009, 2)])?;
-        printed.ask(1098, 2);
-        printed.ask(1099, 2);
-        printed.grant(1100, 2);
-        printed.ask(1101, 2);
-        self.trace("printed", &printed, &[(1101, 2), (1101, 4), (1101, 6)])?;
+        self.trace("back-off", &printed, &[(1112, 2), (1113, 2), (1009, 2)])?;
+        printed.ask(1112, 2);
+        printed.ask(1113, 2);
+        printed.grant(1114, 2);
+        printed.ask(1115, 2);
+        self.trace("printed", &printed, &[(1115, 2), (1115, 4), (1115, 6)])?;
 
         let mut sms = Trace::new();
         sms.open(0, 1_010_123_456_789, [0; 6], 0, 2);
@@ -312,7 +312,7 @@ impl Maker {
         three.silence(11, 0);
         three.reject(12, 3, 0, 0);
         three.ask(12, 5);
-        self.trace("three", &three, &[(50, 2), (50, 0), (50, 3), (50, 5), (99, 2), (3606, 2), (3607, 2)])?;
+        self.trace("three", &three, &[(50, 2), (50, 0), (50, 3), (50, 5), (113, 2), (3606, 2), (3607, 2)])?;
 
         let mut long = Trace::new();
         long.open(4_294_967, LARGEST_IMSI, [0; 6], 0, 255);

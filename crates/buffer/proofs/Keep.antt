@@ -11,6 +11,7 @@ use lib.Seq.{getD-set-same, getD-set-other}
 use borrow.Author.Tests.{leb-true, le-leb, eqb-true, eqb-false, eq-eqb}
 use Rattle.rules.specs.declared.Answer.{Answer}
 use Rattle.rules.specs.Calls.{Event, ask, granted, silent, rejected, dropped, tick, Line, nfm, nfm-start, intervals, query, bad, Call, timed, typed}
+use Rattle.mixing.specs.Mixing.{drawn}
 use Rattle.rules.specs.Tables.{highestTime, Kind, among, action, moodOn, oneMore, interval, waitFor, ascending, scheduled}
 use Rattle.rules.specs.Rules.{State, Facts, Services, check, refusal, wait, failed, verdict, ruling, refused, moved, raised, counted, idle, asked, onGranted, onFailed, withStanding, acted, switched, obeyed, changed, onto, adds, learn, newest, short, step}
 use Rattle.rules.proofs.Checks.{accepted, on-time, in-time, refused-adds, failed-wait, failed-on}
@@ -319,7 +320,7 @@ wait-low f s h =
     let l = f .mode .intervals in
     let n = oneMore (getD (f .services .failures) s 0) in
     let r = interval-range f h n (omega arith) in
-    let m : f .opening .imsi % interval l n < interval l n = mod-lt (f .opening .imsi) (omega (arith, r .0)) in
+    let m = mod-lt (drawn (f .opening .imsi) n) {m = interval l n} (omega (arith, r .0)) in
     omega (arith, r .1, m)
 
 backs : (f : Facts) (t s n : ℕ) → Sane f → t ≤ highestTime → (a : Answer) → a ≡ failed f s n → a .number ≡ 20 → Backs (moved t f .mode .nfm) t a

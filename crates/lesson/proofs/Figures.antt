@@ -6,6 +6,7 @@ use Prim.Native.Nat.{ℕ}
 use lib.Dec.{eqb}
 use lib.ListN.{getD}
 use borrow.Author.Tests.{eqb-true}
+use Rattle.mixing.specs.Mixing.{mixed}
 use Rattle.rules.specs.declared.Answer.{Answer}
 use Rattle.rules.specs.Calls.{C-PDP-1, Call}
 use Rattle.rules.specs.Tables.{within, action, moodOn, waitFor, ascending, ofSix}
@@ -36,7 +37,7 @@ seen-ran : (c : Case) → seenOverRecord c ≡ ran c
 seen-ran c i = let g = givenBy (c .from) in record { given = sym (answers-told g (c .calls)) i; pdp1 = sym (as-told g (c .calls) .counters C-PDP-1) i }
 
 computed : map ran cases ≡ expected
-unfolding begun part bothGood goodOrAbsent absent file blank rulingFile within action moodOn waitFor limits blocks inRange stands refusal runs wait failed verdict ruling points moved counted asked onGranted onFailed acted switched obeyed changed onto adds learn fresh
+unfolding mixed begun part bothGood goodOrAbsent absent file blank rulingFile within action moodOn waitFor limits blocks inRange stands refusal runs wait failed verdict ruling points moved counted asked onGranted onFailed acted switched obeyed changed onto adds learn fresh
 computed = refl
 
 pub figures-over-the-record : map seenOverRecord cases ≡ expected

@@ -80,7 +80,7 @@ cases =
     case plain
     (timed 0 (ask 2) ∷ timed 0 (silent 2) ∷ timed 1000 (ask 2) ∷ timed 1000 (silent 2) ∷ timed 2000 (ask 2) ∷ timed 2000 (silent 2) ∷ timed 3000 (ask 2) ∷ timed 3000 (silent 2) ∷ [])
     -- C2, C3
-    ∷ case plain (timed 1000 (ask 2) ∷ timed 1010 (rejected 2 26 0) ∷ timed 1098 (ask 2) ∷ timed 1099 (ask 2) ∷ [])
+    ∷ case plain (timed 1000 (ask 2) ∷ timed 1010 (rejected 2 26 0) ∷ timed 1112 (ask 2) ∷ timed 1113 (ask 2) ∷ [])
     -- C4, C5
     ∷ case (from 0 1 0 0 0 2 0 0) (timed 10 (ask 3) ∷ timed 10 (granted 3) ∷ timed 20 (ask 3) ∷ timed 20 (granted 3) ∷ timed 3609 (ask 3) ∷ timed 3610 (ask 3) ∷ [])
     -- C6, C7
@@ -95,7 +95,7 @@ cases =
     ∷ case (from 0 1 0 0 0 0 1 3) (timed 3599 tick ∷ timed 3600 tick ∷ timed 10800 tick ∷ [])
     -- the printed trace, opened at 1000 with S1 = 2
     ∷ case (from 1000 1 0 0 0 2 0 0)
-    (timed 1000 (ask 2) ∷ timed 1010 (rejected 2 26 0) ∷ timed 1098 (ask 2) ∷ timed 1099 (ask 2) ∷ timed 1100 (granted 2) ∷ timed 1101 (ask 2) ∷ [])
+    (timed 1000 (ask 2) ∷ timed 1010 (rejected 2 26 0) ∷ timed 1112 (ask 2) ∷ timed 1113 (ask 2) ∷ timed 1114 (granted 2) ∷ timed 1115 (ask 2) ∷ [])
     ∷ []
 
 abbrev ok : Answer
@@ -106,8 +106,8 @@ sight l n = record { given = l; pdp1 = n }
 
 abbrev pub expected : List Seen
 expected =
-    sight (ok ∷ answer 20 89 ∷ ok ∷ answer 20 149 ∷ ok ∷ answer 20 389 ∷ ok ∷ answer 20 389 ∷ []) 0
-    ∷ sight (ok ∷ answer 20 89 ∷ answer 10 1 ∷ ok ∷ []) 0
+    sight (ok ∷ answer 20 103 ∷ ok ∷ answer 20 152 ∷ ok ∷ answer 20 273 ∷ ok ∷ answer 20 438 ∷ []) 0
+    ∷ sight (ok ∷ answer 20 103 ∷ answer 10 1 ∷ ok ∷ []) 0
     ∷ sight (ok ∷ ok ∷ ok ∷ ok ∷ answer 18 0 ∷ ok ∷ []) 0
     ∷ sight (ok ∷ answer 11 0 ∷ ok ∷ []) 0
     ∷ sight (ok ∷ ok ∷ ok ∷ answer 16 0 ∷ []) 0
@@ -115,5 +115,5 @@ expected =
     ∷ sight (ok ∷ []) 3
     ∷ sight (ok ∷ ok ∷ []) 2
     ∷ sight (ok ∷ ok ∷ ok ∷ []) 0
-    ∷ sight (ok ∷ answer 20 89 ∷ answer 10 1 ∷ ok ∷ ok ∷ answer 4 0 ∷ []) 0
+    ∷ sight (ok ∷ answer 20 103 ∷ answer 10 1 ∷ ok ∷ ok ∷ answer 4 0 ∷ []) 0
     ∷ []

@@ -8,6 +8,7 @@ use lib.Dec.{lit<, leb, eqb}
 use lib.ListN.{length, getD, set}
 use borrow.Author.Tests.{leb-true, le-leb, lt-leb, ne-eqb}
 use Rattle.outcome.specs.declared.Backoff.{Backoff}
+use Rattle.mixing.specs.Mixing.{mixed, drawn}
 use Rattle.rules.specs.declared.Answer.{Answer}
 use Rattle.rules.specs.Calls.{Event, granted, silent, rejected, dropped, timed, answer}
 use Rattle.rules.specs.Tables.{highestTime, Kind, among, action, moodOn, oneMore, interval, waitFor}
@@ -17,7 +18,7 @@ use Rattle.buffer.specs.Places.{QUOTIENT, REMAINDER, COUNT, INTERVALS, FAILURES
 use Rattle.buffer.specs.Segments.{part}
 use Rattle.buffer.specs.Layout.{spread, rows, factsOf, view}
 use Rattle.buffer.specs.Good.{good}
-use Rattle.buffer.proofs.Goodness.{good-shape, interval-count, valid-view}
+use Rattle.buffer.proofs.Goodness.{at-most, good-shape, interval-count, valid-view}
 use Rattle.buffer.proofs.Segments.{part-at}
 use Rattle.buffer.proofs.Sane.{Sane, valid-facts}
 use Rattle.buffer.proofs.Keep.{interval-range, wait-low}
@@ -97,13 +98,25 @@ module _ (b : List ℕ) (g : good b ≡ true) (n m : ℕ) (e : m ≡ getD b COUN
       let i : min (min (n + 1) 255) (length l) - 1 ≡ m - 1 = omega (arith, interval-count b (good-shape b g), count-range .1) in
       rw i (sym (part-at b INTERVALS (getD b COUNT 0) (m - 1) (omega (arith, count-range .0))))
 
+-- what it is drawn from fits
+pub failures-low : (b : List ℕ) → good b ≡ true → (i : ℕ) → i < 4 → {n : ℕ} → n ≡ getD b (FAILURES + i) 0 → n ≤ 255
+unfolding factsOf
+failures-low b g i h u = omega (arith, at-most 255 (factsOf b .services .failures) (sane-of b g .services .failures) i, part-at b FAILURES 4 i h)
+
+pub imsi-low : (b : List ℕ) → good b ≡ true → {m : ℕ} → m ≡ getD b QUOTIENT 0 * 2 ^ 32 + getD b REMAINDER 0 → m < 2 ^ 60
+unfolding factsOf
+imsi-low b g v = omega (arith, sane-of b g .opening .imsi)
+
 -- the wait, by the places
-pub waits : (b : List ℕ) (i : ℕ) → i < 4 → {r p q n : ℕ} → r ≡ p + q % p
-    → p ≡ interval (factsOf b .mode .intervals) (oneMore n) → n ≡ getD b (FAILURES + i) 0 → q ≡ getD b QUOTIENT 0 * 2 ^ 32 + getD b REMAINDER 0 → r ≡ wait (factsOf b) i
+pub waits : (b : List ℕ) (i : ℕ) → i < 4 → {r p x n m : ℕ} → n ≡ getD b (FAILURES + i) 0 → m ≡ getD b QUOTIENT 0 * 2 ^ 32 + getD b REMAINDER 0
+    → r ≡ p + x % p → p ≡ interval (factsOf b .mode .intervals) (oneMore n) → x ≡ drawn m (n + 1) → r ≡ wait (factsOf b) i
 unfolding wait waitFor factsOf
-waits b i h e u v w =
-    let k = u ∙ ap (λ (n : ℕ). interval (factsOf b .mode .intervals) (oneMore n)) (v ∙ sym (part-at b FAILURES 4 i h)) in
-    e ∙ (λ j. k j + w j % k j)
+waits b i h {n = n} u v e k d =
+    let l = factsOf b .mode .intervals in
+    let capped : min (n + 1) 15 ≡ min (oneMore n) 15 = omega arith in
+    let same : n ≡ getD (factsOf b .services .failures) i 0 = u ∙ sym (part-at b FAILURES 4 i h) in
+    e ∙ (λ j. k j + d j % k j) ∙ (λ j. interval l (oneMore n) + mixed (v j * 16 + capped j) % interval l (oneMore n))
+    ∙ ap (λ (n : ℕ). interval l (oneMore n) + drawn (factsOf b .opening .imsi) (oneMore n) % interval l (oneMore n)) same
 
 -- ---- What is left
 

@@ -209,12 +209,12 @@ fn checks(s: &[u32], t: u32, range: bool, service: u32) -> u32
     clock::refuse(range, clock::timely(s, t), asked(s, service))
 }
 
-// The wait of a base interval: it and the IMSI's remainder by it.
-fn spread_out(imsi: u64, base: u32) -> u32
+// The wait of a base interval: it and the remainder by it of what the card draws.
+fn spread_out(x: u64, base: u32) -> u32
     requires { ⌜ (1 ≤ base) × (base ≤ 65535) ⌝ }
-    ensures { λ r. ⌜ r ≡ base + imsi % base ⌝ }
+    ensures { λ r. ⌜ r ≡ base + x % base ⌝ }
 {
-    base + (imsi % (base as u64)) as u32
+    base + (x % (base as u64)) as u32
 }
 
 // The base interval of one failure more than n: the last where there are fewer.
@@ -237,7 +237,8 @@ fn wait(s: &[u32], i: usize) -> u32
     requires { ⌜ i < 4 ⌝ }
     ensures { λ r. ⌜ r ≡ wait (factsOf (now (s .entry))) i ⌝ }
 {
-    spread_out(fields::imsi(s), base(s, fields::failures(s, i)))
+    let n = fields::failures(s, i);
+    spread_out(mixing::draw(fields::imsi(s), n + 1), base(s, n))
 }
 
 // The answer to a failure of service i whose action is n; with NFM 0 it is 23 in place of 20.

@@ -4,6 +4,7 @@ use mathlib.Core.Bool.{Bool, true, false, cond, not, _&&_, _||_}
 use mathlib.Core.List.{List, [], _∷_}
 use lib.ListN.{length, getD}
 use lib.Dec.{ltb, leb, eqb}
+use Rattle.mixing.specs.Mixing.{drawn}
 use Rattle.rules.specs.Calls.{Opening, Counter, C-BR-1, C-R-1, C-PDP-1, C-PDP-2, C-PDP-3, C-PDP-4}
 
 abbrev pub highestTime : ℕ
@@ -62,9 +63,9 @@ oneMore n = min (n + 1) 255
 abbrev pub interval : List ℕ → ℕ → ℕ
 interval l n = getD l (min n (length l) - 1) 0
 
--- B plus the IMSI's remainder by B
+-- B plus the remainder by B of what the card draws
 unfoldable pub waitFor : ℕ → List ℕ → ℕ → ℕ
-waitFor imsi l n = interval l n + imsi % interval l n
+waitFor imsi l n = interval l n + drawn imsi n % interval l n
 
 -- none is below the one before it, the first not below lo, and none is above hi
 unfoldable pub ascending : ℕ → ℕ → List ℕ → Bool

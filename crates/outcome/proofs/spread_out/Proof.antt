@@ -9,10 +9,10 @@ rem-result : tie.Need-rem-result
 rem-result c = search needs
 
 cast-result : tie.Need-cast-result
-cast-result c = omega (arith, mod-lt (c .args .imsi) {m = c .args .base} (omega arith))
+cast-result c = omega (arith, mod-lt (c .args .x) {m = c .args .base} (omega arith))
 
 add-result : tie.Need-add-result
-add-result c = omega (arith, mod-lt (c .args .imsi) {m = c .args .base} (omega arith))
+add-result c = omega (arith, mod-lt (c .args .x) {m = c .args .base} (omega arith))
 
 returns : tie.Need-returns
 returns c = search needs
