@@ -1,12 +1,21 @@
-// What is timed by itself, exported for the programs under bench/. Firmware has no use for it.
+// What is timed or compared by itself, exported for the programs under bench/ and tests/. Firmware has no use for it.
 use rules::Answer;
 ghost use mathlib.Core.Path.{_≡_};
 ghost use mathlib.Core.Bool.{true};
 ghost use lib.ListN.{length};
+ghost use Rattle.mixing.specs.Mixing.{mixed};
 ghost use Rattle.rules.specs.Calls.{timed, ask, tick};
 ghost use Rattle.buffer.specs.Places.{SIZE};
 ghost use Rattle.buffer.specs.Good.{good};
 ghost use Rattle.clock.specs.Call.{Says};
+
+// A number mixed.
+#[no_mangle]
+pub extern "C" fn timing_mix(x: u64) -> u64
+    ensures { λ r. ⌜ r ≡ mixed x ⌝ }
+{
+    mixing::mix(x)
+}
 
 // Whether a buffer is good.
 #[no_mangle]
