@@ -5,3 +5,4 @@ pub mod RecordTells
 pub mod Newest
 pub mod Hour
 pub mod Demand3
+pub mod Row
