@@ -230,7 +230,7 @@ fn base(s: &[u32], n: u32) -> u32
     fields::interval(s, (m - 1) as usize)
 }
 
-// How long service i waits after one failure more.
+// How long service i waits after one failure more. A card draws the same from 15 failures on, so the count for that need not stop at 255.
 fn wait(s: &[u32], i: usize) -> u32
     requires { ⌜ length (now s) ≡ SIZE ⌝ }
     requires { ⌜ good (now s) ≡ true ⌝ }
