@@ -28,9 +28,9 @@ at-most hi [] h i = zero-le
 at-most hi (x ∷ l) h zero = leb-true x hi (and-left (leb x hi) (atMost hi l) h)
 at-most hi (x ∷ l) h (suc i) = at-most hi l (and-right (leb x hi) (atMost hi l) h) i
 
--- lengths of at most 255
-pub length-low : (b : List ℕ) → bytes (part b LENGTHS 5) ≡ true → (k : ℕ) → k < 5 → getD b (LENGTHS + k) 0 ≤ 255
-length-low b h k l = rw (part-at b 50 5 k l) at (at-most 255 (part b LENGTHS 5) h k)
+-- n places from p that are bytes
+pub byte-low : (b : List ℕ) (p n : ℕ) → bytes (part b p n) ≡ true → (i : ℕ) → i < n → getD b (p + i) 0 ≤ 255
+byte-low b p n h i l = rw (part-at b p n i l) at (at-most 255 (part b p n) h i)
 
 pub zeros-replicate : (l : List ℕ) → zeros l ≡ true → l ≡ replicate (length l) 0
 unfolding atMost
@@ -200,7 +200,7 @@ module _ (b : List ℕ) (h : good b ≡ true) where
         low = ltb-true (getD b REMAINDER 0) (2 ^ 32) (and-left _ _ (line 4));
         few = leb-true n 10 (and-right (leb 1 n) (leb n 10) (line 6));
         spare = and-right (intervals-good (factsOf b .mode .intervals)) _ (line 7);
-        short = length-low b (line 16);
+        short = byte-low b LENGTHS 5 (line 16);
         clear = clear;
       }
 

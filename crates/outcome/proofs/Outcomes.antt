@@ -18,7 +18,7 @@ use Rattle.buffer.specs.Places.{QUOTIENT, REMAINDER, COUNT, INTERVALS, FAILURES
 use Rattle.buffer.specs.Segments.{part}
 use Rattle.buffer.specs.Layout.{spread, rows, factsOf, view}
 use Rattle.buffer.specs.Good.{good}
-use Rattle.buffer.proofs.Goodness.{at-most, good-shape, interval-count, valid-view}
+use Rattle.buffer.proofs.Goodness.{byte-low, good-shape, interval-count, valid-view}
 use Rattle.buffer.proofs.Segments.{part-at}
 use Rattle.buffer.proofs.Sane.{Sane, valid-facts}
 use Rattle.buffer.proofs.Keep.{interval-range, wait-low}
@@ -101,7 +101,7 @@ module _ (b : List ℕ) (g : good b ≡ true) (n m : ℕ) (e : m ≡ getD b COUN
 -- what it is drawn from fits
 pub failures-low : (b : List ℕ) → good b ≡ true → (i : ℕ) → i < 4 → {n : ℕ} → n ≡ getD b (FAILURES + i) 0 → n ≤ 255
 unfolding factsOf
-failures-low b g i h u = omega (arith, at-most 255 (factsOf b .services .failures) (sane-of b g .services .failures) i, part-at b FAILURES 4 i h)
+failures-low b g i h u = rw u (byte-low b FAILURES 4 (sane-of b g .services .failures) i h)
 
 pub imsi-low : (b : List ℕ) → good b ≡ true → {m : ℕ} → m ≡ getD b QUOTIENT 0 * 2 ^ 32 + getD b REMAINDER 0 → m < 2 ^ 60
 unfolding factsOf
