@@ -16,11 +16,11 @@ extern "C" {
     fn timing_request_in(state: *mut u32, length: usize, time: u32, kind: u32) -> Answer;
 }
 
-fn round(number: u32, mut call: impl FnMut(u32) -> Answer) -> f64 {
+fn round(expected: (u32, u32), mut call: impl FnMut(u32) -> Answer) -> f64 {
     let start = Instant::now();
     for _ in 0..20_000 {
         let answer = black_box(call(black_box(9_000)));
-        assert!(answer.number == number && answer.second == 0);
+        assert!((answer.number, answer.second) == expected);
     }
     start.elapsed().as_nanos() as f64 / 20_000.0
 }
@@ -36,12 +36,14 @@ fn main() {
         }
     }
     let (s, n) = (state.as_mut_ptr(), state.len());
+    // S1 is 255, so the permit of 8,000 has to leave the hour.
+    let (done, blocked) = ((0, 0), (18, 8_000 + 3_600 - 9_000));
     let mut least = [f64::MAX; 4];
     for _ in 0..25 {
-        least[0] = least[0].min(round(0, |t| unsafe { timing_tick(s, n, t) }));
-        least[1] = least[1].min(round(0, |t| unsafe { timing_tick_in(s, n, t) }));
-        least[2] = least[2].min(round(18, |t| unsafe { timing_request(s, n, t, 3) }));
-        least[3] = least[3].min(round(18, |t| unsafe { timing_request_in(s, n, t, 3) }));
+        least[0] = least[0].min(round(done, |t| unsafe { timing_tick(s, n, t) }));
+        least[1] = least[1].min(round(done, |t| unsafe { timing_tick_in(s, n, t) }));
+        least[2] = least[2].min(round(blocked, |t| unsafe { timing_request(s, n, t, 3) }));
+        least[3] = least[3].min(round(blocked, |t| unsafe { timing_request_in(s, n, t, 3) }));
     }
     for (name, time) in ["tick, checked", "tick, inner", "request, checked", "request, inner"].iter().zip(least) {
         println!("{name:18} {time:7.1} ns");

@@ -20,7 +20,7 @@
  *         case REJECTED: a = dialchisel_rejected(state, DIALCHISEL_STATE, now(), DIALCHISEL_PDP, cause, 0); break;
  *         default:       a = dialchisel_silent(state, DIALCHISEL_STATE, now(), DIALCHISEL_PDP); break;
  *         }
- *     } else if (a.number == DIALCHISEL_BLOCKED_BACKOFF) {
+ *     } else if (a.number >= DIALCHISEL_BLOCKED_BACKOFF && a.number <= DIALCHISEL_BLOCKED_S1) {
  *         ask_again_in(a.second);
  *     }
  *
@@ -75,10 +75,11 @@ enum dialchisel_kind {
 /* Whom an outcome comes from. */
 enum dialchisel_service { DIALCHISEL_GSM = 0, DIALCHISEL_GPRS = 1, DIALCHISEL_PDP = 2, DIALCHISEL_SMS = 3 };
 
-/* The first number given back. The second is 0 but for 0 (bytes written by command and counters), 10 (seconds left) and 20 (the wait in
- * seconds); in dialchisel_why it is the bits of the rules, and there a block moves and counts nothing. Checks run in the order 1, 2, 3, 4,
- * or 1, 5 for an AT line; then 10, then the limits in the order of their numbers: the first that blocks is the one told, and it alone
- * counts. Treat a number that is not here as "no": later versions may add some from 24 up. */
+/* The first number given back. The second is 0 but for 0 (bytes written by command and counters), 10 (seconds left), 11 and 13 to 18
+ * (seconds until that limit by itself would permit) and 20 (the wait in seconds); in dialchisel_why it is the bits of the rules, and there a
+ * block moves and counts nothing. Checks run in the order 1, 2, 3, 4, or 1, 5 for an AT line; then 10, then the limits in the order of
+ * their numbers: the first that blocks is the one told, and it alone counts. Treat a number that is not here as "no": later versions may
+ * add some from 24 up. */
 enum dialchisel_number {
     DIALCHISEL_DONE = 0,              /* done or permitted */
     /* Refused: nothing changed. */
@@ -88,7 +89,9 @@ enum dialchisel_number {
     DIALCHISEL_REFUSED_TIME = 3,      /* time below the last one or above 4,000,000,000; opening needs no earlier time */
     DIALCHISEL_REFUSED_STANDING = 4,  /* the service does not stand where the call needs it */
     DIALCHISEL_REFUSED_LINE = 5,      /* not an AT line of the four forms below */
-    /* Blocked: do not send. The clock moved, counters leaked, and the limit's own counter rose by one, to 255 at most. */
+    /* Blocked: do not send. The clock moved, counters leaked, and the limit's own counter rose by one, to 255 at most. Second of a limit: 1
+     * to 3,600 seconds. To wait so long is enough for that limit, unless something is permitted in between, and a second less is not.
+     * Another rule may still block, so ask again then. */
     DIALCHISEL_BLOCKED_BACKOFF = 10,  /* a back-off runs; second: seconds left. No counter */
     DIALCHISEL_BLOCKED_N1 = 11,       /* resets in the hour. C-BR-1 */
     DIALCHISEL_BLOCKED_F1 = 13,       /* activations in the hour, after one was ignored. C-PDP-1 */
@@ -145,16 +148,17 @@ struct dialchisel_answer dialchisel_open(uint32_t *state, size_t state_count, ui
                                          const uint8_t *own_leaks, size_t own_leaks_count);
 
 /* May a request of this kind go to the network now? Kinds 0 to 3 need their service idle and make it asked; 4 needs PDP up and makes it
- * idle; 5 fits always and makes all idle, but ends no back-off. Answers 0 (send it: it counts as sent), 10 to 18 (do not), or refuses
- * with 1 to 4. */
+ * idle; 5 fits always and makes all idle, but ends no back-off. Answers 0 (send it: it counts as sent), 10 to 18 (do not: ask again in
+ * `second` seconds), or refuses with 1 to 4. */
 struct dialchisel_answer dialchisel_request(uint32_t *state, size_t state_count, uint32_t time, uint32_t kind);
 
 /* Why would the gate say no to a request of this kind at this time? Nothing changes but `times`, a room of exactly 8 numbers.
  *   number  what dialchisel_request would answer: the first rule that stands against the request, or 0 where none does
  *   second  the bits (enum dialchisel_rule_bit) of all rules that stand: of each one that, taken alone, would block
  *   times   for the limit of bit i, times[i] is the permit time that has to leave the hour before that limit permits, which it does 3,600 s
- *           after it: with a limit of L, the time L places from the newest on the limit's list, the newest counted as one. For the
- *           back-off and for a rule that does not stand it is 0; a permit of time 0 is 0 too, and its bit tells that it stands
+ *           after it: with a limit of L, the time L places from the newest on the limit's list, the newest counted as one. Where that
+ *           limit is the first, dialchisel_request gives times[i] + 3600 - time as its seconds. For the back-off and for a rule that
+ *           does not stand it is 0; a permit of time 0 is 0 too, and its bit tells that it stands
  * Answers 0 or 10 to 18, or refuses with 1 to 4 as dialchisel_request would, and with 1 where the room is not of 8 numbers; second is 0
  * then. `times` is written, whole, only where the number is 0 or 10 and up. */
 struct dialchisel_answer dialchisel_why(const uint32_t *state, size_t state_count, uint32_t time, uint32_t kind,

@@ -1,5 +1,6 @@
 #!/usr/bin/env python3
-"""lessons.py COMMAND...: runs every trace of docs/LESSONS.md through the trace program and compares with the column "right"."""
+"""lessons.py COMMAND...: runs every trace of docs/LESSONS.md through the trace program and compares with the column "right". Where the column
+"wrong" differs from it, the first line that does, and no other, has the mark."""
 import os
 import re
 import subprocess
@@ -17,7 +18,11 @@ for block in blocks:
     said = subprocess.run(sys.argv[1:], input=lines, capture_output=True, text=True, check=True).stdout.splitlines()
     if said != right:
         sys.exit(f"docs/LESSONS.md: this trace is answered {said}, and the page says {right}:\n{lines}")
+    if "wrong" in head.split():
+        parted = [i for i, row in enumerate(rows) if " ".join(row[at:].split()[2:4]) != right[i]]
+        if parted[:1] != [i for i, row in enumerate(rows) if row.endswith("<- here they part")]:
+            sys.exit(f"docs/LESSONS.md: in this trace the mark is not where the columns part:\n{lines}")
     count += len(rows)
-if len(blocks) < 9:
-    sys.exit(f"docs/LESSONS.md: {len(blocks)} traces found, and there are at least nine")
+if len(blocks) < 10:
+    sys.exit(f"docs/LESSONS.md: {len(blocks)} traces found, and there are at least ten")
 print(f"lessons: {len(blocks)} traces of {count} lines, answered as the page says")

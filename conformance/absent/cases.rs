@@ -23,13 +23,13 @@ const BY_RTC10: &str = "O 0 1010123456789 60 20,10,60,30,60,30 0,0,0 0 0";
 const WITHOUT_F4: &str = "O 0 1010123456789 60 20,10,60,30,60,0 0,0,0 0 0";
 
 /// Each limit that RPM switches: an opening; what an application does each second (T is the time); how often it can in the hour; and the
-/// answer after that.
-const LIMITS: [(&str, &[&str], u32, &str); 5] = [
-    (BY_RTC10, &["Q T 5"], 20, "11 0"),                   // N1: reset
-    (WITHOUT_F4, &["Q T 2", "S T 2"], 60, "13 0"),        // F1: activation, ignored
-    (BY_RTC10, &["Q T 2", "J T 2 33 0"], 30, "14 0"),     // F2: rejected, permanent
-    (WITHOUT_F4, &["Q T 2", "J T 2 26 0"], 60, "15 0"),   // F3: rejected, temporary
-    (BY_RTC10, &["Q T 2", "G T 2", "Q T 4"], 15, "16 0"), // F4: a pair is two requests
+/// number of the answer after that.
+const LIMITS: [(&str, &[&str], u32, u32); 5] = [
+    (BY_RTC10, &["Q T 5"], 20, 11),                   // N1: reset
+    (WITHOUT_F4, &["Q T 2", "S T 2"], 60, 13),        // F1: activation, ignored
+    (BY_RTC10, &["Q T 2", "J T 2 33 0"], 30, 14),     // F2: rejected, permanent
+    (WITHOUT_F4, &["Q T 2", "J T 2 26 0"], 60, 15),   // F3: rejected, temporary
+    (BY_RTC10, &["Q T 2", "G T 2", "Q T 4"], 15, 16), // F4: a pair is two requests
 ];
 /// More than any limit can be.
 const TOO_MANY: u32 = 256;
@@ -184,6 +184,11 @@ fn at(time: u32, line: &str) -> String {
     line.replace('T', &time.to_string())
 }
 
+/// A limit's answer at this time, while the permit at 0 is the one that has to leave the hour: its number, and the seconds until then.
+fn blocked(number: u32, time: u32) -> String {
+    format!("{number} {}", 3600 - time)
+}
+
 /// TC-RPG1. 1: power on. 2: read the RPM parameters. Exit 1: they match RTC10.
 /// No AT line reads them: the places of the state are read. And they rule: N1, F2 and F4, each until its first permit leaves the hour.
 fn rpg1(module: &mut Module) -> Checked {
@@ -191,9 +196,9 @@ fn rpg1(module: &mut Module) -> Checked {
     same("N1, T1, F1 to F4", &module.state[PARAMETERS..][..6], &RTC10)?;
     same("leak rates", &module.state[LEAK_RATES..][..3], &[0; 3])?;
     same("counters", &module.state[COUNTERS..][..6], &[0; 6])?;
-    for (opening, lines, most, block) in LIMITS.into_iter().filter(|limit| limit.0 == BY_RTC10) {
-        same(&format!("{lines:?}"), module.repeated(opening, lines)?, (most, block.to_string()))?;
-        module.expect(&at(3599, lines[0]), block)?;
+    for (opening, lines, most, number) in LIMITS.into_iter().filter(|limit| limit.0 == BY_RTC10) {
+        same(&format!("{lines:?}"), module.repeated(opening, lines)?, (most, blocked(number, most)))?;
+        module.expect(&at(3599, lines[0]), &blocked(number, 3599))?;
         module.expect(&at(3600, lines[0]), "0 0")?;
     }
     Ok(())
@@ -204,10 +209,9 @@ fn rpg1(module: &mut Module) -> Checked {
 fn rpg3(module: &mut Module) -> Checked {
     for rpm in [1, 0] {
         module.rpm = rpm;
-        for (opening, lines, most, block) in LIMITS {
-            let expected = if rpm == 1 { (most, block) } else { (TOO_MANY, "0 0") };
-            let (permitted, answer) = module.repeated(opening, lines)?;
-            same(&format!("{lines:?} with the flag {rpm}"), (permitted, &answer[..]), expected)?;
+        for (opening, lines, most, number) in LIMITS {
+            let expected = if rpm == 1 { (most, blocked(number, most)) } else { (TOO_MANY, "0 0".to_string()) };
+            same(&format!("{lines:?} with the flag {rpm}"), module.repeated(opening, lines)?, expected)?;
             same("the flag's place", module.state[RPM], rpm)?;
         }
     }

@@ -1,6 +1,6 @@
 //! The trace program of document 01, answered from the full record: the time of every permit since the last accepted opening stays in memory,
-//! none goes at 255, and each limit counts over these. Written from document 01, and for the wait from request §3, and from nothing else, to be
-//! read beside it, section by section.
+//! none goes at 255, and each limit counts over these. Written from document 01, for the wait from request §3 and for a limit's seconds from
+//! request §4, and from nothing else, to be read beside it, section by section.
 //! It goes from standard input to standard output: `rustc -O --edition 2021 docs/src/record.rs -o record && ./record < trace`.
 use std::io::{self, BufRead, Read, Write};
 
@@ -147,7 +147,8 @@ impl Record {
                 if let Some(place) = counter {
                     self.counters[place] = 255.min(self.counters[place] + 1);
                 }
-                return Ok((number, 0));
+                // Request §4: "the permit time L places from the newest, the newest counted as one, plus 3,600, less now".
+                return Ok((number, list[list.len() - limit as usize] + HOUR - t));
             }
         }
 

@@ -260,6 +260,8 @@ pub struct Bench {
     /// Permits on a list that was full, and blocks by a limit of 254 or 255.
     pub cuts: [u64; 5],
     pub high: BTreeMap<u32, u64>,
+    /// Blocks by a limit, whose seconds are compared: all, those with 1 second and those with 3,600.
+    pub seconds: [BTreeMap<u32, u64>; 3],
     /// What `why` told. Its answers are counted there, and not above.
     pub reached: Reached,
     /// Openings that were taken, by the files that the card lacked, and blocks by limits of the module's own file.
@@ -313,7 +315,20 @@ impl Bench {
             *self.lacking.entry(opening.lacking()).or_default() += 1;
         }
         self.count_long(call, model, full, pair.model.part());
+        if let (Call::Request { .. }, 11 | 13..=18) = (call, model.0) {
+            self.count_seconds(call, model);
+        }
         model
+    }
+
+    /// Counts a block by a limit. Its seconds, which agree with the model's, are 1 to 3,600.
+    fn count_seconds(&mut self, call: &Call, (number, seconds): Answer) {
+        if !(1..=HOUR).contains(&seconds) {
+            self.fail(call, &format!("{number} with {seconds} seconds"));
+        }
+        for (counts, counted) in self.seconds.iter_mut().zip([true, seconds == 1, seconds == HOUR]) {
+            *counts.entry(number).or_default() += u64::from(counted);
+        }
     }
 
     /// Counts permits that made the oldest go, and blocks that need a long list.

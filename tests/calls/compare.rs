@@ -1,8 +1,8 @@
 //! Compares the linked library with the model of document 01, call by call: both numbers, every place of the state and of every room, and
 //! a guard on either side of each buffer. SEED in the environment repeats a run; without it the clock gives the seed.
 //! It fails at the first difference, and at the end where an answer, a permit on a full list, a block by a limit of 254 or 255 or by one of
-//! the module's own file, an opening with some of the card's files and without the others, or of `why` a number, a rule, two or three
-//! rules at once or an edge of the lists was met fewer than 100 times.
+//! the module's own file, a limit's first or last second, an opening with some of the card's files and without the others, or of `why` a
+//! number, a rule, two or three rules at once or an edge of the lists was met fewer than 100 times.
 mod both;
 mod files;
 #[allow(dead_code)]
@@ -26,6 +26,8 @@ use why::{Reached, MET};
 
 const ANSWERS: [u32; 18] = [0, 1, 2, 3, 4, 5, 10, 11, 13, 14, 15, 16, 17, 18, 20, 21, 22, 23];
 const WHY_NUMBERS: [u32; 13] = [0, 1, 2, 3, 4, 10, 11, 13, 14, 15, 16, 17, 18];
+const LIMITS: [u32; 7] = [11, 13, 14, 15, 16, 17, 18];
+const SECONDS: [&str; 3] = ["limits, blocks with their seconds", "limits, blocks with 1 second", "limits, blocks with 3600 seconds"];
 const LEAST_EACH: u64 = 100;
 const LEAST_CALLS: u64 = 200_000;
 
@@ -48,8 +50,8 @@ impl Bench {
         }
     }
 
-    /// The document's own figures, on both: C1 to C10 and the printed example, with the waits of request 3. In each, at most one rule
-    /// stands against a request.
+    /// The document's own figures, on both: C1 to C10 and the printed example, with the waits of request 3 and the seconds of request 4. In
+    /// each, at most one rule stands against a request.
     fn figures(&mut self) {
         let ask = |time, kind| Call::Request { time, kind };
         let grant = |time, service| Call::Granted { time, service };
@@ -68,22 +70,22 @@ impl Bench {
             self.figure(&mut printed, call, (number, second));
         }
         let mut c4 = self.opened(&Opening { s1: 2, ..plain.clone() });
-        for (call, number) in
-            [(ask(10, 3), 0), (grant(10, 3), 0), (ask(20, 3), 0), (grant(20, 3), 0), (ask(3609, 3), 18), (ask(3610, 3), 0)]
-        {
-            self.figure(&mut c4, call, (number, 0));
+        for call in [ask(10, 3), grant(10, 3), ask(20, 3), grant(20, 3)] {
+            self.figure(&mut c4, call, (0, 0));
         }
+        self.figure(&mut c4, ask(3609, 3), (18, 1));
+        self.figure(&mut c4, ask(3610, 3), (0, 0));
         let mut c6 = self.opened(&with(&[1]));
-        for (call, number) in [(ask(100, 5), 0), (ask(3699, 5), 11), (ask(3700, 5), 0)] {
-            self.figure(&mut c6, call, (number, 0));
+        for (time, answer) in [(100, (0, 0)), (3699, (11, 1)), (3700, (0, 0))] {
+            self.figure(&mut c6, ask(time, 5), answer);
         }
         let mut c8 = self.opened(&with(&[0, 0, 0, 0, 0, 2]));
-        for (call, number) in [(ask(0, 2), 0), (grant(1, 2), 0), (ask(2, 4), 0), (ask(3, 2), 16)] {
-            self.figure(&mut c8, call, (number, 0));
+        for (call, answer) in [(ask(0, 2), (0, 0)), (grant(1, 2), (0, 0)), (ask(2, 4), (0, 0)), (ask(3, 2), (16, 3597))] {
+            self.figure(&mut c8, call, answer);
         }
         let mut c9 = self.opened(&Opening { nfm: 0, ..with(&[0, 0, 0, 1]) });
-        for (call, number) in [(ask(0, 2), 0), (reject(1, 2, 33), 23), (ask(2, 2), 14)] {
-            self.figure(&mut c9, call, (number, 0));
+        for (call, answer) in [(ask(0, 2), (0, 0)), (reject(1, 2, 33), (23, 0)), (ask(2, 2), (14, 3598))] {
+            self.figure(&mut c9, call, answer);
         }
         let mut c10 = self.opened(&Opening { leaks: file(6, &[0, 0, 1]), counters: file(32, &[0, 0, 3]), ..plain.clone() });
         for (time, count) in [(3599, 3), (3600, 2), (10_800, 0)] {
@@ -135,6 +137,52 @@ impl Bench {
         for counter in &mut state[C_BR_1..LENGTHS] {
             *counter = self.random.pick(&[0, 253, 254, 255]);
         }
+        state
+    }
+
+    /// Each limit, blocked from every edge of the hour of the permit that has to leave: asked then, a second before the seconds told are
+    /// over, and when they are.
+    fn come_back(&mut self) {
+        let limits = [
+            (11, N1, RESET, 5, 0),
+            (13, F1, ACTIVATION, 2, 1),
+            (14, F2, ACTIVATION, 2, 2),
+            (15, F3, ACTIVATION, 2, 3),
+            (16, F4, PDP, 4, 0),
+            (17, A1, ATTACH, 1, 0),
+            (18, S1, SMS, 3, 0),
+        ];
+        for (number, limit, list, kind, mood) in limits {
+            for most in [1, 2, 3, 100, 254, 255] {
+                for age in [0, 1, 1_800, HOUR - 2, HOUR - 1].repeat(20) {
+                    let mut state = self.waiting(limit, list, most, age);
+                    state[MOOD] = mood;
+                    state[STANDINGS + 2] = if kind == 4 { UP } else { IDLE };
+                    let mut pair = self.pair(&state);
+                    let free = 100_000 - age + HOUR;
+                    for (time, answer) in [(100_000, (number, HOUR - age)), (free - 1, (number, 1)), (free, (0, 0))] {
+                        self.figure(&mut pair, Call::Request { time, kind }, answer);
+                    }
+                }
+            }
+        }
+    }
+
+    /// A quiet state at 100,000 with one limit; the permit that has to leave the hour is of that age, with newer ones up to the limit and
+    /// mostly some older, in the hour or not.
+    fn waiting(&mut self, limit: usize, list: usize, most: u32, age: u32) -> Vec<u32> {
+        let older = self.random.pick(&[0, 1, 2, 255]).min(255 - most);
+        let mut state = self.limited(limit, list, most, older + most, age);
+        let times = &mut state[LISTS + LIST_ROOM * list..][..(older + most) as usize];
+        let leaving = 100_000 - age;
+        for (place, time) in times.iter_mut().enumerate() {
+            *time = match place as u32 {
+                place if place < older => leaving - self.random.pick(&[0, 1, 1_800, 5_000]),
+                place if place > older => leaving + self.random.number(age + 1),
+                _ => leaving,
+            };
+        }
+        times.sort_unstable();
         state
     }
 
@@ -526,6 +574,10 @@ impl Bench {
         let strange: Vec<&u32> = self.answers.keys().filter(|a| !ANSWERS.contains(a)).collect();
         seldom.extend(too_seldom("card without", &LACKING, &self.lacking));
         seldom.extend(too_seldom("block by the own file", &RPM_BLOCKS, &self.own_blocks));
+        for (what, counts) in SECONDS.into_iter().zip(&self.seconds) {
+            println!("compare: {what}: {}", listed(counts));
+            seldom.extend(too_seldom(what, &LIMITS, counts));
+        }
         seldom.extend(self.why_seldom());
         let enough = seldom.is_empty() && strange.is_empty() && long && self.calls >= LEAST_CALLS;
         if !enough {
@@ -589,12 +641,14 @@ fn main() {
         answers: BTreeMap::new(),
         cuts: [0; 5],
         high: BTreeMap::new(),
+        seconds: Default::default(),
         reached: Reached::default(),
         lacking: BTreeMap::new(),
         own_blocks: BTreeMap::new(),
     };
     bench.figures();
     bench.limits();
+    bench.come_back();
     bench.every_set();
     bench.near_limits();
     bench.leaks();

@@ -203,7 +203,7 @@ impl Bench {
                 self.expect(&mut pair, outcome.clone(), (23, 0));
             }
         }
-        self.expect(&mut pair, request, (number, 0));
+        self.expect(&mut pair, request, (number, HOUR));
         let (counter, rate) = if number == 11 { (0, 0) } else { (number as usize - 11, 2) };
         let begun = u32::from(opening.counters.get(counter).copied().unwrap_or(0));
         let point = HOUR * u32::from(opening.files()[opening.ruling(1)][rate]);

@@ -1,6 +1,6 @@
 //! A model of the ten calls on the buffer of 1,330 numbers, written from document 01 and from the customer's requests, §1 for `why`, §2 for
-//! the files of an opening and §3 for the wait, and from nothing else. It is plain and slow on purpose: each part names the heading that it
-//! follows, to be read beside it. It never panics, whatever it is given.
+//! the files of an opening, §3 for the wait and §4 for the seconds of a limit, and from nothing else. It is plain and slow on purpose: each
+//! part names the heading that it follows, to be read beside it. It never panics, whatever it is given.
 #![forbid(unsafe_code)]
 
 /// The two numbers given back.
@@ -244,11 +244,11 @@ pub fn request(s: &mut [u32], time: u32, kind: u32) -> Answer {
     if kind <= 3 && time < s[ENDS + service] {
         return (10, s[ENDS + service] - time);
     }
-    if let Some((number, counter)) = first_limit(s, time, kind) {
+    if let Some((number, seconds, counter)) = first_limit(s, time, kind) {
         if let Some(place) = counter {
             s[place] = (s[place] + 1).min(255);
         }
-        return (number, 0);
+        return (number, seconds);
     }
     match kind {
         0..=3 => s[STANDINGS + service] = ASKED,
@@ -268,8 +268,8 @@ pub fn request(s: &mut [u32], time: u32, kind: u32) -> Answer {
     (0, 0)
 }
 
-/// The first limit that blocks, with the counter that it raises: "11, 13, 14, 15, 16, 17, 18; the first alone acts".
-fn first_limit(s: &[u32], time: u32, kind: u32) -> Option<(u32, Option<usize>)> {
+/// The first limit that blocks, with its seconds and the counter that it raises: "11, 13, 14, 15, 16, 17, 18; the first alone acts".
+fn first_limit(s: &[u32], time: u32, kind: u32) -> Option<(u32, u32, Option<usize>)> {
     let rpm = s[RPM] == 1;
     let mood = s[MOOD];
     let limits = [
@@ -283,10 +283,17 @@ fn first_limit(s: &[u32], time: u32, kind: u32) -> Option<(u32, Option<usize>)> 
     ];
     for (number, limit, list, applies, counter) in limits {
         if applies && limit != 0 && in_the_hour(s, list, time) >= limit {
-            return Some((number, counter));
+            return Some((number, seconds_until(s, list, limit, time), counter));
         }
     }
     None
+}
+
+/// §4, "the seconds until that rule by itself would permit", by their meaning and not by the formula beside it: of the times at which a
+/// permit leaves the hour, the first from which on fewer than the limit are in the hour.
+fn seconds_until(s: &[u32], list: usize, limit: u32, t: u32) -> u32 {
+    let leaves = permits(s, list).iter().map(|&p| p + HOUR).filter(|&later| later > t);
+    leaves.filter(|&later| in_the_hour(s, list, later) < limit).min().map_or(0, |later| later - t)
 }
 
 /// "In the hour of t" means a permit time p with p <= t and p + 3,600 > t.

@@ -23,15 +23,15 @@ const JUST_OUT: &str = "would stand but for a permit of 3,600 s";
 const RPM_OFF: &str = "would stand but for RPM 0";
 
 impl Bench {
-    /// Looks at an answer of `why` by itself: it names the gate's own answer, its bits and its first rule agree, and each time is the one
-    /// that has to leave the hour.
+    /// Looks at an answer of `why` by itself: it names the gate's own answer, its bits and its first rule agree, each time is the one that
+    /// has to leave the hour, and where the gate names a limit its seconds end when that time has left: the two are one definition.
     pub fn look_at_why(&mut self, call: &Call, s: &[u32], answer: Answer, before: &[u32], times: &[u32]) {
         let &Call::Why { time, kind, room } = call else {
             return;
         };
         let (number, bits) = answer;
         *self.reached.numbers.entry(number).or_default() += 1;
-        let (own, _) = model::request(&mut s.to_vec(), time, kind);
+        let (own, seconds) = model::request(&mut s.to_vec(), time, kind);
         if number != if room == 8 { own } else { 1 } {
             self.fail(call, &format!("the first rule told is {number}, the gate's own answer {own}"));
         }
@@ -48,6 +48,9 @@ impl Bench {
         *self.reached.at_once.entry(bits.count_ones()).or_default() += 1;
         for (rule, &p) in times.iter().enumerate() {
             self.look_at_rule(call, s, rule, bits >> rule & 1 == 1, p);
+            if RULES[rule].0 == own && own > 10 && p + HOUR - time != seconds {
+                self.fail(call, &format!("the time {p} for rule {own}, which the gate answers with {seconds} seconds"));
+            }
         }
     }
 

@@ -112,18 +112,34 @@ pub enum Refusal {
     Line,
 }
 
-/// The rule that forbids a request.
+/// The rule that forbids a request. Each limit has the seconds, 1 to 3,600, until it by itself would permit. To wait so long is enough for
+/// it, unless something is permitted in between, and a second less is not; another rule may still block, so ask again then.
 #[derive(Clone, Copy, Debug, PartialEq, Eq)]
 pub enum Block {
     /// A back-off runs, with so many seconds left.
     BackOff(u32),
-    N1,
-    F1,
-    F2,
-    F3,
-    F4,
-    A1,
-    S1,
+    N1(u32),
+    F1(u32),
+    F2(u32),
+    F3(u32),
+    F4(u32),
+    A1(u32),
+    S1(u32),
+}
+
+impl Block {
+    /// In how many seconds to ask again.
+    pub fn seconds(self) -> u32 {
+        let (Block::BackOff(seconds)
+        | Block::N1(seconds)
+        | Block::F1(seconds)
+        | Block::F2(seconds)
+        | Block::F3(seconds)
+        | Block::F4(seconds)
+        | Block::A1(seconds)
+        | Block::S1(seconds)) = self;
+        seconds
+    }
 }
 
 /// A rule that can stand against a request, by its bit.
@@ -163,7 +179,8 @@ impl Reasons {
         self.bits >> rule as u32 & 1 == 1
     }
 
-    /// The permit time that has to leave the hour before this limit permits; `None` for the back-off and for a rule that does not stand.
+    /// The permit time that has to leave the hour before this limit permits; `None` for the back-off and for a rule that does not stand. It
+    /// does so 3,600 s later: where this limit is the first, its `Block` has the seconds until then.
     pub fn leaves(&self, rule: Rule) -> Option<u32> {
         if rule == Rule::BackOff || !self.stands(rule) {
             return None;
@@ -193,13 +210,13 @@ impl From<c::Answer> for Verdict {
             4 => Verdict::Refused(Refusal::Standing),
             5 => Verdict::Refused(Refusal::Line),
             10 => Verdict::Blocked(Block::BackOff(second)),
-            11 => Verdict::Blocked(Block::N1),
-            13 => Verdict::Blocked(Block::F1),
-            14 => Verdict::Blocked(Block::F2),
-            15 => Verdict::Blocked(Block::F3),
-            16 => Verdict::Blocked(Block::F4),
-            17 => Verdict::Blocked(Block::A1),
-            18 => Verdict::Blocked(Block::S1),
+            11 => Verdict::Blocked(Block::N1(second)),
+            13 => Verdict::Blocked(Block::F1(second)),
+            14 => Verdict::Blocked(Block::F2(second)),
+            15 => Verdict::Blocked(Block::F3(second)),
+            16 => Verdict::Blocked(Block::F4(second)),
+            17 => Verdict::Blocked(Block::A1(second)),
+            18 => Verdict::Blocked(Block::S1(second)),
             20 => Verdict::Advice(Advice::BackedOff(second)),
             21 => Verdict::Advice(Advice::Reattach),
             22 => Verdict::Advice(Advice::OtherNetwork),

@@ -1,5 +1,5 @@
-/* A C program on the archive: document 01's printed example, refusals, AT lines, why the gate says no, the counter file, a card that lacks
- * its files. It ends in failure on any surprise. It is C99, and C++17 too. */
+/* A C program on the archive: document 01's printed example, refusals, AT lines, why the gate says no and when to come back, the counter
+ * file, a card that lacks its files. It ends in failure on any surprise. It is C99, and C++17 too. */
 #include "dialchisel.h"
 
 #include <stdio.h>
@@ -102,6 +102,17 @@ static void reasons(void)
     is("why changes nothing", memcmp(before, state, sizeof before) == 0);
 }
 
+/* The third SMS comes back when it was told to, and a second before. */
+static void come_back(void)
+{
+    struct dialchisel_answer a = dialchisel_request(state, count, 1300, DIALCHISEL_SMS_SENDING);
+    same("third SMS", a, DIALCHISEL_BLOCKED_S1, 3500);
+    same("a second too early", dialchisel_request(state, count, 1300 + a.second - 1, DIALCHISEL_SMS_SENDING), DIALCHISEL_BLOCKED_S1, 1);
+    same("as told", dialchisel_request(state, count, 1300 + a.second, DIALCHISEL_SMS_SENDING), DIALCHISEL_DONE, 0);
+    same("granted", dialchisel_granted(state, count, 4800, DIALCHISEL_SMS), DIALCHISEL_DONE, 0);
+    same("fourth SMS", dialchisel_request(state, count, 4800, DIALCHISEL_SMS_SENDING), DIALCHISEL_BLOCKED_S1, 2);
+}
+
 /* AT lines, a limit, the counter file. */
 static void bytes(void)
 {
@@ -120,8 +131,7 @@ static void bytes(void)
     same("second SMS", dialchisel_request(state, count, 1202, DIALCHISEL_SMS_SENDING), DIALCHISEL_DONE, 0);
     same("granted", dialchisel_granted(state, count, 1203, DIALCHISEL_SMS), DIALCHISEL_DONE, 0);
     reasons();
-    same("third SMS", dialchisel_request(state, count, 4799, DIALCHISEL_SMS_SENDING), DIALCHISEL_BLOCKED_S1, 0);
-    same("in the next hour", dialchisel_request(state, count, 4800, DIALCHISEL_SMS_SENDING), DIALCHISEL_DONE, 0);
+    come_back();
 
     memset(file, 1, sizeof file);
     same("counters", dialchisel_counters(state, count, file, sizeof file), DIALCHISEL_DONE, DIALCHISEL_COUNTER_FILE);
@@ -151,7 +161,7 @@ static void lacking(void)
 
     for (i = 0; i < 20; i++)
         same("reset", dialchisel_request(state, count, 5000, DIALCHISEL_MODULE_RESET), DIALCHISEL_DONE, 0);
-    same("one reset more", dialchisel_request(state, count, 5000, DIALCHISEL_MODULE_RESET), DIALCHISEL_BLOCKED_N1, 0);
+    same("one reset more", dialchisel_request(state, count, 5000, DIALCHISEL_MODULE_RESET), DIALCHISEL_BLOCKED_N1, 3600);
     same("counters", dialchisel_counters(state, count, file, sizeof file), DIALCHISEL_DONE, DIALCHISEL_COUNTER_FILE);
 
     memcpy(before, state, sizeof before);

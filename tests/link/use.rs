@@ -1,5 +1,5 @@
-//! A Rust program on the safe wrapper: document 01's printed example, refusals, why the gate says no, an AT line, the counter file, a state
-//! that is saved and brought back, a card that lacks its files. It ends in failure on any surprise.
+//! A Rust program on the safe wrapper: document 01's printed example, refusals, why the gate says no and when to come back, an AT line, the
+//! counter file, a state that is saved and brought back, a card that lacks its files. It ends in failure on any surprise.
 mod gate;
 
 use gate::{Advice, Block, Gate, Refusal, Request, Rule, Service, Settings, Verdict, RTC10};
@@ -64,8 +64,30 @@ fn others(seen: &mut Seen, gate: &mut Gate) {
     }
     seen.same("reset", gate.request(2000, Request::ModuleReset), done);
     why(seen, gate);
-    seen.same("third SMS of two", gate.request(5599, Request::Sms), Verdict::Blocked(Block::S1));
+    seen.same("third SMS of two", gate.request(5599, Request::Sms), Verdict::Blocked(Block::S1(1)));
     seen.same("in the next hour", gate.request(5600, Request::Sms), done);
+}
+
+/// A sender that comes back when it was told to, and a second before: S1 = 2, with an SMS at 1000 and one at 1100.
+fn come_back(seen: &mut Seen, settings: &Settings) {
+    let Ok(mut gate) = Gate::open(settings) else {
+        return seen.same("opened to come back", false, true);
+    };
+    for time in [1000, 1100] {
+        seen.same("SMS", gate.request(time, Request::Sms), Verdict::Done(0));
+        seen.same("granted", gate.granted(time, Service::Sms), Verdict::Done(0));
+    }
+    seen.same("what has to leave", gate.why(1500, Request::Sms).map(|why| why.leaves(Rule::S1)), Ok(Some(1000)));
+    let told = gate.request(1500, Request::Sms);
+    seen.same("third SMS", told, Verdict::Blocked(Block::S1(3100)));
+    let Verdict::Blocked(block) = told else {
+        return;
+    };
+    let free = 1500 + block.seconds();
+    seen.same("a second too early", gate.request(free - 1, Request::Sms), Verdict::Blocked(Block::S1(1)));
+    seen.same("as told", gate.request(free, Request::Sms), Verdict::Done(0));
+    seen.same("granted", gate.granted(free, Service::Sms), Verdict::Done(0));
+    seen.same("fourth SMS", gate.request(free, Request::Sms), Verdict::Blocked(Block::S1(100)));
 }
 
 /// Why the gate says no, asked before the request: after two SMS at 2000 and a silence, the back-off and S1 = 2, then S1 alone.
@@ -141,6 +163,7 @@ fn main() -> ExitCode {
             example(&mut seen, &mut gate);
             refusals(&mut seen, &mut gate, &settings);
             others(&mut seen, &mut gate);
+            come_back(&mut seen, &settings);
             bytes(&mut seen, &mut gate);
             lacking(&mut seen, &settings);
         }

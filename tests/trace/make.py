@@ -1,7 +1,7 @@
 #!/usr/bin/env python3
 """make.py SEED COUNT: COUNT made traces in one stream, for the trace program of document 01. Some lines come before any `O`; then each trace
-begins with one, mostly taken. One trace in a hundred fills a list. The generator keeps an idea of where a trace stands, so that most lines pass
-the checks and many times fall on an edge."""
+begins with one, mostly taken. One trace in a hundred fills a list, and one in sixty comes back to a limit at the edges of its seconds. The
+generator keeps an idea of where a trace stands, so that most lines pass the checks and many times fall on an edge."""
 import random
 import sys
 
@@ -480,6 +480,38 @@ class Maker:
             self.act(("Q", self.idea.t + r.choice((0, 1, 11, 14)), request))
         self.mixed(40)
 
+    def returning(self, which):
+        """One limit, by `which` N1, F1, F2, F3, F4, A1 or S1, full by permits of one second: asked in that second, a second before they leave the
+        hour, and when they have left; twice, so that older ones are on the list. Of F1 to F3 there are others in the hour, which were granted."""
+        r = self.r
+        self.manner()
+        granted = ("G",)
+        request, last = ((5, granted), (2, ("S",)), (2, ("J", 33, 0)), (2, ("J", 26, 0)), (2, granted), (r.choice((0, 1)), granted), (3, granted))[which]
+        limits = [0] * 7
+        limit = limits[which] = r.choice((1, 2, 3, 20, 255))
+        n1, f1, f2, f3, f4, a1, s1 = limits
+        self.open(t=r.choice((0, 1000, r.randrange(LATEST // 2))), parameters=[n1, 0, f1, f2, f3, f4], a1=a1, s1=s1)
+        self.act(("A", b"AT+NFM=0", 0, None))
+        for _ in range(2):
+            for _ in range(r.choice((0, 1, 5)) if last != granted else 0):
+                self.sent(self.idea.t + r.choice((0, 1, 300)), request, granted)
+            t = self.idea.t
+            for left in reversed(range(limit)):
+                self.sent(t, request, granted if left else last)
+            for then in t, t + HOUR - 1:
+                self.act(("Q", then, request))
+            self.sent(t + HOUR, request, granted)
+            self.act(("T", self.idea.t + HOUR + r.choice((0, 1, 1000))))
+        self.mixed(20)
+
+    def sent(self, t, request, outcome):
+        """A request and, unless it is a reset, its outcome in the same second; PDP is then dropped."""
+        self.act(("Q", t, request))
+        if request < 4:
+            self.act((outcome[0], t, request, *outcome[1:]))
+        if request == 2 and outcome == ("G",):
+            self.act(("D", t))
+
     def fill(self, k, step, clear):
         """One more permit on list k, when nothing blocks it, and its outcome; an activation succeeds when `clear` says so."""
         r, idea = self.r, self.idea
@@ -511,6 +543,8 @@ def stream(seed, count):
             maker.weary()
         elif i % 300 == 120:
             maker.stubborn()
+        elif i % 60 == 40:
+            maker.returning(i // 60 % 7)
         else:
             maker.plain()
     return b"\n".join(maker.lines) + maker.r.choice((b"", b"\n"))

@@ -4,7 +4,8 @@
 //! - DIRECTORY/traces has a NAME for each trace; NAME.in is the trace, NAME.want its answers, NAME.state the buffer after it.
 //! - DIRECTORY/rounds has a line `NAME TIME REQUEST` for each start of `why` on the buffer after a trace, and wanted/NAME-TIME-REQUEST.
 //!
-//! It fails where these leave a refusal, a rule, or two or three rules at once unreached.
+//! It fails where these leave a refusal, a rule, two or three rules at once, or in the rounds a limit's block with 1 or 3,600 seconds
+//! unreached; and where a limit's seconds and its time differ, which are one definition.
 #![forbid(unsafe_code)]
 #[allow(dead_code)]
 #[path = "../calls/model.rs"]
@@ -36,6 +37,8 @@ struct Maker {
     traces: Vec<String>,
     rounds: Vec<String>,
     reached: BTreeMap<String, u32>,
+    /// In the rounds, blocks by each limit: all, those with 1 second and those with 3,600.
+    seconds: BTreeMap<u32, [u32; 3]>,
 }
 
 impl Maker {
@@ -48,7 +51,12 @@ impl Maker {
         let mut times = [0; 8];
         let (first, bits) = why(state, time, kind, &mut times);
         let mut text = format!("{first} {}\n", bits.count_ones());
+        let (answer, seconds) = request(&mut state.to_vec(), time, kind);
         for (rule, (number, limit)) in RULES.into_iter().enumerate().filter(|(rule, _)| bits >> rule & 1 == 1) {
+            if limit.is_some() && number == answer && times[rule] + HOUR - time != seconds {
+                eprintln!("{answer} with {seconds} seconds at {time}, and the time is {}", times[rule]);
+                exit(1);
+            }
             *self.reached.entry(format!("rule {number}")).or_default() += 1;
             text += &match limit {
                 None => format!("{number}\n"),
@@ -267,6 +275,11 @@ impl Maker {
         for (time, kind) in next {
             let wanted = self.wanted(&trace.state, *time, *kind);
             self.write(&format!("wanted/{name}-{time}-{kind}"), wanted)?;
+            let (answer, seconds) = request(&mut trace.state.clone(), *time, *kind);
+            if answer > 10 {
+                let counts = self.seconds.entry(answer).or_default();
+                *counts = [counts[0] + 1, counts[1] + u32::from(seconds == 1), counts[2] + u32::from(seconds == HOUR)];
+            }
             self.rounds.push(format!("{name} {time} {kind}"));
         }
         Ok(())
@@ -330,6 +343,38 @@ impl Maker {
         Ok(())
     }
 
+    /// Traces after which each limit, of 1, waits for a permit of one time: asked then, a second before the permit leaves the hour, and when
+    /// it has left. F1, F2 and F3 have one more in the hour, which was granted.
+    fn hours_of_limits(&mut self) -> io::Result<()> {
+        let sent = 1_000;
+        let times = [sent, sent + HOUR - 1, sent + HOUR];
+        let mut others = Trace::new();
+        others.open(0, 1_010_123_456_789, [1, 0, 0, 0, 0, 1], 1, 1);
+        for kind in [0, 2, 3, 5] {
+            others.ask(sent, kind);
+        }
+        let kinds = [0, 1, 2, 3, 5];
+        self.trace("limits", &others, &times.map(|time| kinds.map(|kind| (time, kind))).concat())?;
+        for mood in 1..=3 {
+            let mut params = [0; 6];
+            params[1 + mood] = 1;
+            let mut trace = Trace::new();
+            trace.open(0, 1_010_123_456_789, params, 0, 0);
+            trace.at("AT+NFM=0");
+            trace.ask(sent - 100, 2);
+            trace.grant(sent - 100, 2);
+            trace.drop(sent - 100);
+            trace.ask(sent, 2);
+            match mood {
+                1 => trace.silence(sent, 2),
+                2 => trace.reject(sent, 2, 33, 0),
+                _ => trace.reject(sent, 2, 26, 0),
+            }
+            self.trace(&format!("mood{mood}"), &trace, &times.map(|time| (time, 2)))?;
+        }
+        Ok(())
+    }
+
     /// A trace of any lines, mostly accepted.
     fn any_trace(&mut self) -> Trace {
         let mut trace = Trace::new();
@@ -364,10 +409,16 @@ impl Maker {
         let (cases, rounds, traces) = (self.cases.len(), self.rounds.len(), self.traces.len());
         println!("made: {cases} states, {traces} traces and {rounds} rounds");
         println!("reached: {}", self.reached.iter().map(|(what, times)| format!("{what} x {times}")).collect::<Vec<_>>().join(", "));
+        let told = |(number, [all, one, hour]): (&u32, &[u32; 3])| format!("{number} x {all} ({one} and {hour})");
+        let seconds = self.seconds.iter().map(told).collect::<Vec<_>>().join(", ");
+        println!("blocks in the rounds, with their seconds (with 1 and with 3600): {seconds}");
         let refusals = (1..=4).map(|number| format!("refusal {number}"));
         let rules = RULES.into_iter().map(|(number, _)| format!("rule {number}"));
         let at_once = (0..=3).map(|count| format!("{count} at once"));
-        let missing: Vec<String> = refusals.chain(rules).chain(at_once).filter(|what| !self.reached.contains_key(what)).collect();
+        let mut missing: Vec<String> = refusals.chain(rules).chain(at_once).filter(|what| !self.reached.contains_key(what)).collect();
+        let limits = RULES.into_iter().filter(|(_, limit)| limit.is_some()).map(|(number, _)| number);
+        let met = |number: &u32| self.seconds.get(number).is_some_and(|counts| !counts.contains(&0));
+        missing.extend(limits.filter(|number| !met(number)).map(|number| format!("{number} with 1 and with 3600 seconds")));
         if !missing.is_empty() {
             eprintln!("not reached: {}", missing.join(", "));
             exit(1);
@@ -394,12 +445,14 @@ fn main() -> io::Result<()> {
     fs::create_dir_all(directory.join("states"))?;
     fs::create_dir_all(directory.join("wanted"))?;
     let (cases, traces, rounds) = (vec![], vec![], vec![]);
-    let mut maker = Maker { directory, random: Random(seed.max(1)), cases, traces, rounds, reached: BTreeMap::new() };
+    let (reached, seconds) = (BTreeMap::new(), BTreeMap::new());
+    let mut maker = Maker { directory, random: Random(seed.max(1)), cases, traces, rounds, reached, seconds };
     maker.sets()?;
     maker.hours()?;
     maker.refusals()?;
     maker.damage()?;
     maker.lengths()?;
     maker.made_traces()?;
+    maker.hours_of_limits()?;
     maker.end()
 }

@@ -9,15 +9,17 @@ use native.Mathlib.Numerals.{add-one}
 use native.Mathlib.Omega.{arith}
 use lib.Dec.{lit≤}
 use lib.ListN.{length, take, drop, getD, set, replicate, length-append, length-drop, length-replicate}
-use lib.Seq.{drop-append-seam, take-all, drop-append-le, set-split, drop-drop, append-snoc, slice, slice-cons, slice-empty, length-take-le}
+use lib.Seq.{drop-append-seam, take-all, drop-append-le, set-split, drop-drop, append-snoc, slice, slice-cons, slice-empty, length-take-le, getD-take}
 use borrow.Author.Tests.{le-leb, lt-leb, lt-ltb, le-ltb}
-use Rattle.rules.specs.Tables.{within, inHour}
+use Rattle.rules.specs.Tables.{within, inHour, fromNewest, ascending}
 use Rattle.rules.specs.Rules.{Facts, newest}
+use Rattle.rules.proofs.Newest.{ascending-rises, within-past, within-late, few}
+use Rattle.rules.proofs.Leaving.{leaves-hour}
 use Rattle.buffer.specs.Segments.{pad, part}
 use Rattle.buffer.specs.Layout.{spread, row}
 use Rattle.buffer.specs.Places.{LENGTHS, LISTS}
 use Rattle.buffer.specs.Good.{Shape}
-use Rattle.buffer.specs.Lists.{Holds, Listed, appended, permitted}
+use Rattle.buffer.specs.Lists.{Holds, Listed, appended, permitted, fullFor}
 use Rattle.buffer.proofs.Segments.{length-part}
 use Rattle.buffer.proofs.Laying.{Shaped, length-pad, take-pad, places-at, count-at, set-row, shaped-row}
 use Rattle.buffer.proofs.Goodness.{zeros-replicate}
@@ -141,3 +143,28 @@ module _ (f : Facts) (rs : List (List ℕ)) (s : Shaped f rs) (k : ℕ) (five : 
 -- as many times stand on a list as its length says
 pub listed-length : (b : List ℕ) (k : ℕ) → Listed b k → length (row b k) ≡ getD b (LENGTHS + k) 0
 listed-length b k h = let u = h .holds .used in let l = h .long in let f = h .five in length-part b (LISTS + 255 * k) (getD b (LENGTHS + k) 0) (omega arith)
+
+-- of the first n places, which rise to t: where L or more are in the hour, the time L places from the newest is among them, and in the hour
+pub record Full (p : List ℕ) (n t L : ℕ) : Type 0 where
+  pub few : L ≤ n
+  pub past : getD p (n - L) 0 ≤ t
+  pub late : t < getD p (n - L) 0 + 3600
+  pub says : fullFor t L (take n p) ≡ getD p (n - L) 0 + 3600 - t
+
+pub full : (p : List ℕ) (n t L : ℕ) → n ≤ length p → ascending 0 t (take n p) ≡ true → 0 < L → L ≤ inHour t (take n p) → Full p n t L
+unfolding fullFor
+full p n t L long up some h =
+    let used = length-take-le n p long in
+    let enough : L ≤ n = omega (arith, h, few t (take n p), used) in
+    let at : fromNewest L (take n p) ≡ getD p (n - L) 0 = rw used (getD-take n p (n - L) 0 (omega arith)) in
+    let in-hour : within t (getD p (n - L) 0) ≡ true = rw at at (leaves-hour L t 0 (take n p) (ascending-rises 0 t (take n p) (omega arith) up) some h .in-hour) in
+    record {
+      few = enough;
+      past = within-past t (getD p (n - L) 0) in-hour;
+      late = within-late t (getD p (n - L) 0) in-hour;
+      says = rw (le-leb L (inHour t (take n p)) h, at);
+    }
+
+pub free : (t L : ℕ) (l : List ℕ) → inHour t l < L → fullFor t L l ≡ 0
+unfolding fullFor
+free t L l h = rw (lt-leb L (inHour t l) h)

@@ -1,8 +1,11 @@
 -- One list of permit times in its 255 places. Assumes nothing.
 use mathlib.Core.Path.{_≡_}
+use mathlib.Core.Bool.{cond}
 use mathlib.Core.List.{List, [], _∷_, _++_}
 use Prim.Native.Nat.{ℕ, _+_, _*_, _-_, _≤_, _<_, min}
+use lib.Dec.{leb}
 use lib.ListN.{length, take, drop, getD, set, replicate}
+use Rattle.rules.specs.Tables.{inHour, freeIn}
 use Rattle.rules.specs.Rules.{newest}
 use Rattle.buffer.specs.Places.{SIZE, LENGTHS, LISTS}
 use Rattle.buffer.specs.Segments.{part, pad, paste}
@@ -28,3 +31,7 @@ unfoldable pub permitted : List ℕ → ℕ → ℕ → List ℕ
 permitted b k t =
     let n = getD b (LENGTHS + k) 0 in
     set (paste b (LISTS + 255 * k) (appended (part b (LISTS + 255 * k) 255) n t)) (LENGTHS + k) (min (n + 1) 255)
+
+-- the seconds until fewer than L of a list are in the hour of t, and 0 where fewer are
+unfoldable pub fullFor : ℕ → ℕ → List ℕ → ℕ
+fullFor t L l = cond (leb L (inHour t l)) (freeIn t L l) 0

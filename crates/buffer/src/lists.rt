@@ -1,12 +1,13 @@
 // The five lists of permit times: 0 attach, 1 activation, 2 PDP, 3 SMS, 4 reset. Each has 255 places of its own, lent on as a part of the
-// buffer, and its length in another place. One routine adds to a list, and one counts in it.
+// buffer, and its length in another place. One routine adds to a list, and one says for how long it is full.
 use crate::places as at;
 ghost use mathlib.Core.Path.{_≡_};
+ghost use mathlib.Core.Bool.{true};
 ghost use Prim.Native.Nat.{_+_, _≤_, _<_, min};
 ghost use lib.ListN.{length, take};
-ghost use Rattle.rules.specs.Tables.{inHour, fromNewest};
+ghost use Rattle.rules.specs.Tables.{inHour, ascending};
 ghost use Rattle.buffer.specs.Layout.{row};
-ghost use Rattle.buffer.specs.Lists.{Holds, Listed, appended, permitted};
+ghost use Rattle.buffer.specs.Lists.{Holds, Listed, appended, permitted, fullFor};
 
 // Adds t as the newest of a list's own 255 places, of which n are used; at 255 the oldest goes. Returns the new length.
 pub fn append(p: &mut [u32], n: u32, t: u32) -> u32
@@ -41,7 +42,7 @@ pub fn permit_on(s: &mut [u32], k: usize, t: u32)
 }
 
 // How many of the first n times are in the hour of t.
-pub fn in_hour(p: &[u32], n: u32, t: u32) -> u32
+fn in_hour(p: &[u32], n: u32, t: u32) -> u32
     requires { ⌜ n ≤ length (now p) ⌝ }
     ensures { λ r. ⌜ r ≡ inHour t (take n (now (p .entry))) ⌝ }
 {
@@ -60,23 +61,28 @@ pub fn in_hour(p: &[u32], n: u32, t: u32) -> u32
     c
 }
 
-// How many permits of list k are in the hour of t.
-pub fn hour_of(s: &[u32], k: usize, t: u32) -> u32
+// The seconds until fewer than `most` of the first n times, which rise to t, are in the hour; 0 where fewer are.
+pub fn full_for(p: &[u32], n: u32, t: u32, most: u32) -> u32
+    requires { ⌜ n ≤ length (now p) ⌝ }
+    requires { ⌜ ascending 0 t (take n (now p)) ≡ true ⌝ }
+    requires { ⌜ 0 < most ⌝ }
+    ensures { λ r. ⌜ r ≡ fullFor t most (take n (now (p .entry))) ⌝ }
+{
+    if in_hour(p, n, t) < most {
+        return 0;
+    }
+    let i = (n - most) as usize;
+    3600 - (t - p[i])
+}
+
+// The same of list k.
+pub fn list_full_for(s: &[u32], k: usize, t: u32, most: u32) -> u32
     requires { ⌜ Listed (now s) k ⌝ }
-    ensures { λ r. ⌜ r ≡ inHour t (row (now (s .entry)) k) ⌝ }
+    requires { ⌜ ascending 0 t (row (now s) k) ≡ true ⌝ }
+    requires { ⌜ 0 < most ⌝ }
+    ensures { λ r. ⌜ r ≡ fullFor t most (row (now (s .entry)) k) ⌝ }
 {
     let a = at::LISTS + at::ROOM * k;
     let e = a + at::ROOM;
-    in_hour(&s[a..e], s[at::LENGTHS + k], t)
-}
-
-// The time m places from the newest of list k, the newest counted as one.
-pub fn from_newest(s: &[u32], k: usize, m: u32) -> u32
-    requires { ⌜ Listed (now s) k ⌝ }
-    requires { ⌜ (0 < m) × (m ≤ length (row (now s) k)) ⌝ }
-    ensures { λ r. ⌜ r ≡ fromNewest m (row (now (s .entry)) k) ⌝ }
-{
-    let a = at::LISTS + at::ROOM * k;
-    let i = (s[at::LENGTHS + k] - m) as usize;
-    s[a + i]
+    full_for(&s[a..e], s[at::LENGTHS + k], t, most)
 }

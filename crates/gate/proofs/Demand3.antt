@@ -172,7 +172,7 @@ on-the-buffer g before x k =
     record {
       next = λ c r y s. s .answered ∙ same c;
       next-line = λ line room r y z h s. heard-says (kept-good g before x k) h s .answered ∙ same (typed (readLine line));
-      demand = as-the-rules g before (λ c. callAnswer x c) same;
+      demand = as-the-rules g (k .bytes) before (λ c. callAnswer x c) same;
       places = k .is ∙ ap (λ (w : State). lay w) (held-told g (k .bytes) before);
       stays-good = kept-good g before x k;
       why = λ t q. told-why g before x k t q;

@@ -108,10 +108,10 @@ abbrev pub expected : List Seen
 expected =
     sight (ok ∷ answer 20 103 ∷ ok ∷ answer 20 152 ∷ ok ∷ answer 20 273 ∷ ok ∷ answer 20 438 ∷ []) 0
     ∷ sight (ok ∷ answer 20 103 ∷ answer 10 1 ∷ ok ∷ []) 0
-    ∷ sight (ok ∷ ok ∷ ok ∷ ok ∷ answer 18 0 ∷ ok ∷ []) 0
-    ∷ sight (ok ∷ answer 11 0 ∷ ok ∷ []) 0
-    ∷ sight (ok ∷ ok ∷ ok ∷ answer 16 0 ∷ []) 0
-    ∷ sight (ok ∷ answer 23 0 ∷ answer 14 0 ∷ []) 0
+    ∷ sight (ok ∷ ok ∷ ok ∷ ok ∷ answer 18 1 ∷ ok ∷ []) 0
+    ∷ sight (ok ∷ answer 11 1 ∷ ok ∷ []) 0
+    ∷ sight (ok ∷ ok ∷ ok ∷ answer 16 3597 ∷ []) 0
+    ∷ sight (ok ∷ answer 23 0 ∷ answer 14 3598 ∷ []) 0
     ∷ sight (ok ∷ []) 3
     ∷ sight (ok ∷ ok ∷ []) 2
     ∷ sight (ok ∷ ok ∷ ok ∷ []) 0

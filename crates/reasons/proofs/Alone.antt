@@ -1,23 +1,23 @@
 -- What a rule taken alone answers: the back-off stands just where it runs, and a limit just where it blocks; the first of those that stand is the gate's
 -- own answer. Assumes nothing.
-use mathlib.Core.Path.{_≡_, refl, sym, ap, _∙_}
+use mathlib.Core.Path.{_≡_, refl, sym, ap, _∙_, subst}
 use mathlib.Core.Bool.{Bool, true, false, cond, not, _&&_}
 use mathlib.Core.List.{List, [], _∷_, map}
-use Prim.Native.Nat.{ℕ, zero, suc, _-_, _≤_, _<_}
+use mathlib.Core.Logic.{_≢_}
+use Prim.Native.Nat.{ℕ, zero, suc, _+_, _-_, _<_}
 use native.Mathlib.Omega.{arith}
 use lib.Dec.{lit<, lit≤, leb, ltb, eqb}
 use lib.Count.{ones, trailingZeros}
 use lib.ListN.{length, getD, List·getD-map}
-use borrow.Author.Tests.{le-ltb, leb-true, ltb-true, ltb-false, eq-eqb, ne-eqb}
+use borrow.Author.Tests.{le-ltb, ltb-true, ltb-false, eq-eqb, ne-eqb}
 use Rattle.rules.specs.Calls.{timed, ask, answer}
-use Rattle.rules.specs.Tables.{attach, inHour, fromNewest}
-use Rattle.rules.specs.Rules.{State, Limit, limit, limits, blocks, firstBlock, stands, refusal, runs, verdict, ruling, idle}
-use Rattle.rules.proofs.Checks.{and-left, and-right}
-use Rattle.rules.proofs.Hour.{few}
-use Rattle.buffer.specs.Layout.{factsOf, view}
-use Rattle.buffer.specs.Layout.{row as rowOf}
-use Rattle.request.specs.declared.Row.{Row}
-use Rattle.request.specs.Request.{limitAt, RowOf, waiting}
+use Rattle.rules.specs.declared.Answer.{Answer}
+use Rattle.rules.specs.Tables.{attach, inHour, freeIn}
+use Rattle.rules.specs.Rules.{State, Limit, limit, limits, blocks, blockedBy, firstBlock, stands, refusal, runs, verdict, ruling, idle}
+use Rattle.rules.specs.Demand3.{Each}
+use Rattle.rules.proofs.Demand3.{first-is as first-number-is}
+use Rattle.rules.proofs.Again.{Ordered, ordered, each-other}
+use Rattle.request.specs.Request.{limitAt, waiting}
 use Rattle.reasons.specs.Why.{alone, blocked, against, rules, stand, weigh, howMany, leaving, times, refusedBy, reasons}
 use Rattle.reasons.proofs.Bits.{ones-weigh, firstNamed, first-weigh}
 
@@ -40,6 +40,12 @@ no-end (suc (suc zero)) = refl
 no-end (suc (suc (suc zero))) = refl
 no-end (suc (suc (suc (suc q)))) = refl
 
+-- of each limit of a table, so of row i
+each-at : (rs : List Limit) (P : Limit → Type 0) (i : ℕ) (d : Limit) → Each P rs → i < length rs → P (getD rs i d)
+each-at [] P i d h g = absurd (omega arith)
+each-at (r ∷ rs) P zero d h g = h .0
+each-at (r ∷ rs) P (suc i) d h g = each-at rs P i d (h .1) (omega arith)
+
 module _ (w : State) (t q : ℕ) where
   alone-limits : (n : ℕ) → limits (alone n w .facts) q ≡ map (only n) (limits (w .facts) q)
   unfolding alone limits only
@@ -54,14 +60,49 @@ module _ (w : State) (t q : ℕ) where
       go false = and-never (r .applies) (leb 0 (inHour t (w .lists (r .kind))))
 
   -- the first block of limit n alone
-  firstOf : ℕ → List Limit → ℕ
-  firstOf n [] = 0
-  firstOf n (r ∷ rs) = cond (eqb n (r .number) && blocks w t r) (r .number) (firstOf n rs)
+  firstOf : ℕ → List Limit → Answer
+  firstOf n [] = answer 0 0
+  firstOf n (r ∷ rs) = cond (eqb n (r .number) && blocks w t r) (blockedBy w t r) (firstOf n rs)
 
   first-only : (n : ℕ) (rs : List Limit) → firstBlock (alone n w) t (map (only n) rs) ≡ firstOf n rs
-  unfolding firstOf only
+  unfolding firstOf only alone
   first-only n [] = refl
-  first-only n (r ∷ rs) = rw (blocks-only n r, first-only n rs)
+  first-only n (r ∷ rs) = rw (blocks-only n r, first-only n rs) (go (eqb n (r .number)) (blocks w t r))
+    where
+      l : List ℕ
+      l = w .lists (r .kind)
+
+      go : (x y : Bool) → cond (x && y) (answer (r .number) (freeIn t (cond x (r .most) 0) l)) (firstOf n rs) ≡ cond (x && y) (answer (r .number) (freeIn t (r .most) l)) (firstOf n rs)
+      go true y = refl
+      go false y = refl
+
+  -- the number of the first that blocks
+  first-number : (rs : List Limit) → firstBlock w t rs .number ≡ firstNamed (map (λ r. r .number) rs) (map (blocks w t) rs)
+  first-number [] = refl
+  first-number (r ∷ rs) = go (blocks w t r) (first-number rs)
+    where
+      go : (b : Bool) → firstBlock w t rs .number ≡ firstNamed (map (λ x. x .number) rs) (map (blocks w t) rs)
+          → cond b (blockedBy w t r) (firstBlock w t rs) .number
+          ≡ cond b (r .number) (firstNamed (map (λ x. x .number) rs) (map (blocks w t) rs))
+      go true e = refl
+      go false e = e
+
+  -- where the first number is that of row i, row i blocks, and the seconds are its own
+  first-row : (rs : List Limit) → Ordered rs → (i : ℕ) (d : Limit) → i < length rs → firstBlock w t rs .number ≡ getD rs i d .number
+      → (blocks w t (getD rs i d) ≡ true) × (firstBlock w t rs ≡ blockedBy w t (getD rs i d))
+  first-row [] o i d h e = absurd (omega arith)
+  first-row (r ∷ rs) o zero d h e = go (blocks w t r) refl e
+    where
+      go : (b : Bool) → blocks w t r ≡ b → cond b (blockedBy w t r) (firstBlock w t rs) .number ≡ r .number → (b ≡ true) × (cond b (blockedBy w t r) (firstBlock w t rs) ≡ blockedBy w t r)
+      go true x e = (refl, refl)
+      go false x e = absurd (first-number-is (λ n. n ≢ r .number) w t rs (λ k. omega (arith, o .0, k)) (each-other (r .number) rs (o .1 .0)) e)
+  first-row (r ∷ rs) o (suc i) d h e = go (blocks w t r) refl e (first-row rs (o .1 .1) i d (omega arith))
+    where
+      go : (b : Bool) → blocks w t r ≡ b → cond b (blockedBy w t r) (firstBlock w t rs) .number ≡ getD rs i d .number
+          → (firstBlock w t rs .number ≡ getD rs i d .number → (blocks w t (getD rs i d) ≡ true) × (firstBlock w t rs ≡ blockedBy w t (getD rs i d)))
+          → (blocks w t (getD rs i d) ≡ true) × (cond b (blockedBy w t r) (firstBlock w t rs) ≡ blockedBy w t (getD rs i d))
+      go true x e more = absurd (each-at rs (λ y. y .number ≢ r .number) i d (each-other (r .number) rs (o .1 .0)) (omega arith) (sym e))
+      go false x e more = more e
 
   no-run : (n : ℕ) → eqb n 10 ≡ false → runs (alone n w .facts) t q ≡ false
   unfolding runs alone
@@ -80,18 +121,22 @@ module _ (w : State) (t q : ℕ) where
     passes n = z
 
     alone-answers : (n : ℕ) → ruling (alone n w) (timed t (ask q))
-        ≡ cond (runs (alone n w .facts) t q) (answer 10 (getD (alone n w .facts .services .ends) q 0 - t)) (answer (firstOf n (limits (w .facts) q)) 0)
+        ≡ cond (runs (alone n w .facts) t q) (answer 10 (getD (alone n w .facts .services .ends) q 0 - t)) (firstOf n (limits (w .facts) q))
     unfolding ruling verdict
     alone-answers n = rw (passes n, alone-limits n, first-only n)
 
     -- the gate itself
-    pub gate-answers : ruling w (timed t (ask q)) .number ≡ cond (runs (w .facts) t q) 10 (firstBlock w t (limits (w .facts) q))
+    gate-answers : ruling w (timed t (ask q)) ≡ cond (runs (w .facts) t q) (answer 10 (getD (w .facts .services .ends) q 0 - t)) (firstBlock w t (limits (w .facts) q))
     unfolding ruling verdict
-    gate-answers = rw z (go (runs (w .facts) t q))
+    gate-answers = rw z
+
+    gate-number : ruling w (timed t (ask q)) .number ≡ cond (runs (w .facts) t q) 10 (firstNamed (map (λ r. r .number) (limits (w .facts) q)) (map (blocks w t) (limits (w .facts) q)))
+    gate-number = ap (λ (a : Answer). a .number) gate-answers ∙ go (runs (w .facts) t q)
       where
-        go : (b : Bool) → cond b (answer 10 (getD (w .facts .services .ends) q 0 - t)) (answer (firstBlock w t (limits (w .facts) q)) 0) .number ≡ cond b 10 (firstBlock w t (limits (w .facts) q))
+        go : (b : Bool) → cond b (answer 10 (getD (w .facts .services .ends) q 0 - t)) (firstBlock w t (limits (w .facts) q)) .number
+            ≡ cond b 10 (firstNamed (map (λ r. r .number) (limits (w .facts) q)) (map (blocks w t) (limits (w .facts) q)))
         go true = refl
-        go false = refl
+        go false = first-number (limits (w .facts) q)
 
     -- what each rule, taken alone, finds: the back-off whether it runs, a limit whether it blocks
     abbrev pub found : List Bool
@@ -118,29 +163,67 @@ module _ (w : State) (t q : ℕ) where
         go true = refl
         go false = refl
 
-    limit-number : (n : ℕ) → eqb n 10 ≡ false → ruling (alone n w) (timed t (ask q)) .number ≡ firstOf n (limits (w .facts) q)
-    limit-number n k = rw (alone-answers n, no-run n k)
+    limit-answers : (n : ℕ) → eqb n 10 ≡ false → ruling (alone n w) (timed t (ask q)) ≡ firstOf n (limits (w .facts) q)
+    limit-answers n k = rw (alone-answers n, no-run n k)
+
+    -- each of the seven limits, which answer with a number that is a block's
+    record Row (r : Limit) : Type 0 where
+      answers : ruling (alone (r .number) w) (timed t (ask q)) ≡ cond (blocks w t r) (blockedBy w t r) (answer 0 0)
+      block : blocked (answer (r .number) 0) ≡ true
+
+    row-answers : (i : ℕ) → i < 7 → Row (limitAt (w .facts) q i)
+    unfolding firstOf limits
+    row-answers zero h = record { answers = limit-answers 11 refl; block = refl }
+    row-answers (suc zero) h = record { answers = limit-answers 13 refl; block = refl }
+    row-answers (suc (suc zero)) h = record { answers = limit-answers 14 refl; block = refl }
+    row-answers (suc (suc (suc zero))) h = record { answers = limit-answers 15 refl; block = refl }
+    row-answers (suc (suc (suc (suc zero)))) h = record { answers = limit-answers 16 refl; block = refl }
+    row-answers (suc (suc (suc (suc (suc zero))))) h = record { answers = limit-answers 17 refl; block = refl }
+    row-answers (suc (suc (suc (suc (suc (suc zero)))))) h = record { answers = limit-answers 18 refl; block = refl }
+    row-answers (suc (suc (suc (suc (suc (suc (suc i))))))) h = absurd (omega arith)
+
+    row-not-ten : (i : ℕ) → i < 7 → limitAt (w .facts) q i .number ≢ 10
+    unfolding limits
+    row-not-ten i h = each-at (limits (w .facts) q) (λ r. r .number ≢ 10) i (limit 0 false 0 attach) (omega arith) h
+
+    row-is : (i : ℕ) → i < 7 → Alone (limitAt (w .facts) q i .number) (blocks w t (limitAt (w .facts) q i))
+    row-is i h =
+        let r = limitAt (w .facts) q i in
+        by-number (r .number) (blocks w t r) (row-answers i h .block) (ap (λ (a : Answer). a .number) (row-answers i h .answers) ∙ go r (blocks w t r))
+      where
+        go : (r : Limit) (b : Bool) → cond b (blockedBy w t r) (answer 0 0) .number ≡ cond b (r .number) 0
+        go r true = refl
+        go r false = refl
+
+    -- a row of the table, taken alone, stands just where it blocks, and its second number is the seconds until it would permit
+    pub row-alone : (i : ℕ) → i < 7 → against w t q (limitAt (w .facts) q i .number) ≡ blocks w t (limitAt (w .facts) q i)
+    row-alone i h = row-is i h .stands
+
+    pub row-second : (i : ℕ) → i < 7 → blocks w t (limitAt (w .facts) q i) ≡ true
+        → ruling (alone (limitAt (w .facts) q i .number) w) (timed t (ask q)) .second ≡ leaving w (limitAt (w .facts) q i) + 3600 - t
+    row-second i h e = rw (row-answers i h .answers, e)
+
+    -- and where the gate names its number, that is the gate's second number as well
+    pub gate-second : (i : ℕ) → i < 7 → ruling w (timed t (ask q)) .number ≡ limitAt (w .facts) q i .number
+        → (blocks w t (limitAt (w .facts) q i) ≡ true) × (ruling w (timed t (ask q)) .second ≡ leaving w (limitAt (w .facts) q i) + 3600 - t)
+    unfolding limits
+    gate-second i h e = go (runs (w .facts) t q) gate-answers
+      where
+        go : (b : Bool) → ruling w (timed t (ask q)) ≡ cond b (answer 10 (getD (w .facts .services .ends) q 0 - t)) (firstBlock w t (limits (w .facts) q))
+            → (blocks w t (limitAt (w .facts) q i) ≡ true) × (ruling w (timed t (ask q)) .second ≡ leaving w (limitAt (w .facts) q i) + 3600 - t)
+        go true x = absurd (row-not-ten i h (sym e ∙ ap (λ (a : Answer). a .number) x))
+        go false x =
+            let f = first-row (limits (w .facts) q) (ordered (w .facts) q) i (limit 0 false 0 attach) h (sym (ap (λ (a : Answer). a .number) x) ∙ e) in
+            (f .0, ap (λ (a : Answer). a .second) (x ∙ f .1))
 
     -- each of the eight
     pub each-alone : (i : ℕ) → i < 8 → Alone (getD rules i 0) (getD found i false)
-    unfolding firstOf limits
-    each-alone zero h = by-number 10 (getD found 0 false) refl back-off-number
-    each-alone (suc zero) h = by-number 11 (getD found 1 false) refl (limit-number 11 refl)
-    each-alone (suc (suc zero)) h = by-number 13 (getD found 2 false) refl (limit-number 13 refl)
-    each-alone (suc (suc (suc zero))) h = by-number 14 (getD found 3 false) refl (limit-number 14 refl)
-    each-alone (suc (suc (suc (suc zero)))) h = by-number 15 (getD found 4 false) refl (limit-number 15 refl)
-    each-alone (suc (suc (suc (suc (suc zero))))) h = by-number 16 (getD found 5 false) refl (limit-number 16 refl)
-    each-alone (suc (suc (suc (suc (suc (suc zero)))))) h = by-number 17 (getD found 6 false) refl (limit-number 17 refl)
-    each-alone (suc (suc (suc (suc (suc (suc (suc zero))))))) h = by-number 18 (getD found 7 false) refl (limit-number 18 refl)
-    each-alone (suc (suc (suc (suc (suc (suc (suc (suc i)))))))) h = absurd (omega arith)
-
-    -- a row of the table, taken alone, stands just where it blocks
-    pub row-alone : (i : ℕ) → i < 7 → against w t q (limitAt (w .facts) q i .number) ≡ blocks w t (limitAt (w .facts) q i)
     unfolding limits blocks
-    row-alone i h =
-        ap (against w t q) (sym (List·getD-map (λ (r : Limit). r .number) (limits (w .facts) q) i (limit 0 false 0 attach)))
-        ∙ each-alone (suc i) (omega arith) .stands
-        ∙ List·getD-map (blocks w t) (limits (w .facts) q) i (limit 0 false 0 attach)
+    each-alone zero h = by-number 10 (getD found 0 false) refl back-off-number
+    each-alone (suc i) h =
+        subst (λ (n : ℕ). Alone n (getD found (suc i) false)) (sym (List·getD-map (λ (r : Limit). r .number) (limits (w .facts) q) i (limit 0 false 0 attach)))
+        (subst (λ (b : Bool). Alone (limitAt (w .facts) q i .number) b) (sym (List·getD-map (blocks w t) (limits (w .facts) q) i (limit 0 false 0 attach)))
+        (row-is i (omega arith)))
 
     -- all of them
     one : (i : ℕ) → i < 8 → against w t q (getD rules i 0) ≡ getD found i false
@@ -171,7 +254,7 @@ module _ (w : State) (t q : ℕ) where
     -- the first of those that stand is the gate's own answer
     pub first-is : firstNamed rules (stand w t q) ≡ ruling w (timed t (ask q)) .number
     unfolding limits
-    first-is = ap (firstNamed rules) stand-is ∙ sym gate-answers
+    first-is = ap (firstNamed rules) stand-is ∙ sym gate-number
 
     -- ---- What the code finds is what is said
 
@@ -206,17 +289,3 @@ module _ (w : State) (t q : ℕ) where
 pub refused-said : (w : State) (t q n : ℕ) → n ≡ refusal (w .facts) (timed t (ask q)) → (n ≡ 0 → ⊥) → refusedBy n ≡ reasons w t q
 unfolding reasons
 refused-said w t q n e h = rw (← e, ne-eqb n 0 h)
-
--- ---- The time that has to leave
-
--- a limit that blocks is above 0, and so many are in the hour
-pub blocks-full : (a : Bool) (m t : ℕ) (l : List ℕ) → (a && (ltb 0 m && leb m (inHour t l))) ≡ true → (0 < m) × (m ≤ inHour t l)
-blocks-full a m t l h =
-    let e = and-right a (ltb 0 m && leb m (inHour t l)) h in
-    (ltb-true 0 m (and-left (ltb 0 m) (leb m (inHour t l)) e), leb-true m (inHour t l) (and-right (ltb 0 m) (leb m (inHour t l)) e))
-
-pub blocks-enough : (a : Bool) (m t : ℕ) (l : List ℕ) → (a && (ltb 0 m && leb m (inHour t l))) ≡ true → (0 < m) × (m ≤ length l)
-blocks-enough a m t l h = let f = blocks-full a m t l h in (f .0, omega (arith, f .1, few t l))
-
-pub row-leaving : (b : List ℕ) (q i : ℕ) (r : Row) → RowOf (limitAt (factsOf b) q i) r → fromNewest (r .most) (rowOf b (r .list)) ≡ leaving (view b) (limitAt (factsOf b) q i)
-row-leaving b q i r h = rw (h .most, h .list)

@@ -1,6 +1,5 @@
 pub mod Alone
 pub mod Bits
-pub mod Leaving
 pub mod Meaning
 pub mod Room
 pub mod Record

@@ -3,7 +3,7 @@ use mathlib.Core.Path.{_≡_, refl, sym, ap, _∙_}
 use mathlib.Core.Bool.{Bool, true, false, cond}
 use mathlib.Core.List.{List}
 use mathlib.Core.Logic.{_⊎_, inl, inr}
-use Prim.Native.Nat.{ℕ, suc, _+_, _≤_, _<_}
+use Prim.Native.Nat.{ℕ, suc, _+_, _-_, _<_}
 use native.Mathlib.Numerals.{add-one}
 use lib.Dec.{lit≤, eqb}
 use lib.ListN.{getD, List·getD-map}
@@ -12,7 +12,9 @@ use Rattle.rules.specs.Calls.{timed, ask, answer}
 use Rattle.rules.specs.Tables.{Kind, attach}
 use Rattle.rules.specs.Rules.{State, Limit, limit, limits, blocks, refusal, ruling}
 use Rattle.rules.proofs.Checks.{on-time}
-use Rattle.rules.proofs.Newest.{Rising, rising-more}
+use Rattle.rules.specs.Leaves.{Leaves}
+use Rattle.rules.proofs.Newest.{Rising, rising-more, ascending-rises}
+use Rattle.rules.proofs.Leaving.{full-leaves}
 use Rattle.buffer.specs.Layout.{factsOf, view}
 use Rattle.buffer.specs.Good.{good}
 use Rattle.buffer.proofs.Goodness.{valid-view}
@@ -20,11 +22,10 @@ use Rattle.buffer.proofs.Sane.{valid-facts}
 use Rattle.clock.specs.Call.{callAnswer}
 use Rattle.request.specs.Request.{limitAt}
 use Rattle.reasons.specs.declared.said.Why.{Why}
-use Rattle.reasons.specs.Why.{against, rules, bit, bitAt, stand, weigh, leaving, times, refusedBy, reasons, whyOf, RoomSays}
-use Rattle.reasons.specs.Meaning.{Leaves, Means}
+use Rattle.reasons.specs.Why.{alone, against, rules, bit, bitAt, stand, weigh, leaving, times, refusedBy, reasons, whyOf, RoomSays}
+use Rattle.reasons.specs.Meaning.{Means}
 use Rattle.reasons.proofs.Bits.{ones-weigh, first-weigh, bit-weigh, weigh-lt}
-use Rattle.reasons.proofs.Alone.{found, each-alone, row-alone, stand-is, times-are, first-is, blocks-full}
-use Rattle.reasons.proofs.Leaving.{ascending-rises, leaves-hour}
+use Rattle.reasons.proofs.Alone.{found, each-alone, row-alone, row-second, gate-second, stand-is, times-are, first-is}
 
 -- ---- Over a state whose lists rise
 
@@ -53,10 +54,15 @@ module _ (w : State) (t q : ℕ) (z : refusal (w .facts) (timed t (ask q)) ≡ 0
         ∙ rw stands)
 
     leaves-then : Leaves (w .lists (r .kind)) (r .most) t
-    unfolding blocks
-    leaves-then =
-        let f = blocks-full (r .applies) (r .most) t (w .lists (r .kind)) stands in
-        leaves-hour (r .most) t a (w .lists (r .kind)) (up (r .kind)) (f .0) (f .1)
+    leaves-then = full-leaves w t r a (up (r .kind)) stands
+
+    alone-then : ruling (alone (r .number) w) (timed t (ask q)) .second ≡ getD (times w t q) (i + 1) 0 + 3600 - t
+    unfolding r
+    alone-then = rw time-at (row-second w t q z i h stands)
+
+  gate-then : (i : ℕ) → i < 7 → ruling w (timed t (ask q)) .number ≡ limitAt (w .facts) q i .number → ruling w (timed t (ask q)) .second ≡ getD (times w t q) (i + 1) 0 + 3600 - t
+  unfolding r
+  gate-then i h e = let f = gate-second w t q z i h e in rw (time-at i h (row-alone w t q z i h ∙ f .0)) (f .1)
 
   pub means : Means w t q (reasons w t q)
   unfolding reasons r
@@ -68,6 +74,8 @@ module _ (w : State) (t q : ℕ) (z : refusal (w .facts) (timed t (ask q)) ≡ 0
     lowest = sym (first-weigh 32 rules (stand w t q) refl (lit≤ tt) ∙ first-is w t q z);
     gates-own = refl;
     leaves = λ i h e. (time-at i h e, leaves-then i h e);
+    alone-seconds = alone-then;
+    gates-seconds = gate-then;
   })
 
 -- ---- On a buffer

@@ -2,31 +2,16 @@
 use mathlib.Core.Path.{_≡_, refl, sym, ap, _∙_}
 use mathlib.Core.Bool.{Bool, true, false, cond}
 use mathlib.Core.List.{List, [], _∷_, map}
-use Prim.Native.Nat.{ℕ, _+_, _-_, _≤_}
-use native.Mathlib.Omega.{arith}
+use Prim.Native.Nat.{ℕ, _≤_}
 use lib.Dec.{eqb}
-use lib.ListN.{length, getD, drop, length-drop}
-use lib.Seq.{getD-drop}
 use borrow.Author.Tests.{eqb-true}
 use Rattle.rules.specs.Calls.{timed, ask}
-use Rattle.rules.specs.Tables.{fromNewest}
-use Rattle.rules.specs.Rules.{State, Limit, limits, blocks, refusal, runs, ruling, newest, short}
+use Rattle.rules.specs.Rules.{State, Limit, limits, blocks, refusal, runs, ruling, short}
 use Rattle.rules.proofs.Checks.{on-time}
-use Rattle.rules.proofs.Newest.{Sound, Small, limits-small, blocks-same, ruling-same}
+use Rattle.rules.proofs.Newest.{from-newest-same, Sound, Small, limits-small, blocks-same, ruling-same}
 use Rattle.reasons.specs.declared.said.Why.{Why}
 use Rattle.reasons.specs.Why.{stand, weigh, howMany, leaving, times, refusedBy, reasons}
-use Rattle.reasons.proofs.Alone.{blocks-enough, stand-is, times-are}
-
--- the time so many places from the newest is among the newest 255
-from-newest-same : (m : ℕ) (l : List ℕ) → m ≤ 255 → m ≤ length l → fromNewest m (newest l) ≡ fromNewest m l
-unfolding newest
-from-newest-same m l h g =
-    let d = length l - 255 in
-    ap (λ (n : ℕ). getD (drop d l) (n - m) 0) (length-drop d l) ∙ getD-drop d l (length l - d - m) 0 ∙ ap (λ (n : ℕ). getD l n 0) (let e : length l - 255 + (length l - (length l - 255) - m) ≡ length l - m = omega arith in e)
-
-enough : (w : State) (t : ℕ) (r : Limit) → blocks w t r ≡ true → r .most ≤ length (w .lists (r .kind))
-unfolding blocks
-enough w t r e = blocks-enough (r .applies) (r .most) t (w .lists (r .kind)) e .1
+use Rattle.reasons.proofs.Alone.{stand-is, times-are}
 
 module _ (w : State) (s : Sound w) (t q : ℕ) (z : refusal (w .facts) (timed t (ask q)) ≡ 0) where
   late : w .facts .last ≤ t
@@ -34,11 +19,7 @@ module _ (w : State) (s : Sound w) (t q : ℕ) (z : refusal (w .facts) (timed t 
 
   time-same : (r : Limit) → r .most ≤ 255 → cond (blocks (short w) t r) (leaving (short w) r) 0 ≡ cond (blocks w t r) (leaving w r) 0
   unfolding short
-  time-same r h = ap (λ (b : Bool). cond b (leaving (short w) r) 0) (blocks-same w s t late r h) ∙ go (blocks w t r) refl
-    where
-      go : (b : Bool) → blocks w t r ≡ b → cond b (leaving (short w) r) 0 ≡ cond b (leaving w r) 0
-      go true e = from-newest-same (r .most) (w .lists (r .kind)) h (enough w t r e)
-      go false e = refl
+  time-same r h = rw (blocks-same w s t late r h, from-newest-same (r .most) (w .lists (r .kind)) h)
 
   all-same : (rs : List Limit) → Small rs → map (blocks (short w) t) rs ≡ map (blocks w t) rs
   all-same [] h = refl

@@ -2,7 +2,6 @@
 // the back-off, bit 1 is 11, and then 13 to 18. Nothing is changed.
 pub mod said;
 
-use buffer::lists;
 use rules::Answer;
 use said::Why;
 ghost use mathlib.Core.Path.{_≡_};
@@ -70,16 +69,18 @@ fn first(bits: u32) -> u32
     if i < 8 { NUMBERS[i] } else { 0 }
 }
 
-// Limit i, 0 to 6, on request q at t.
+// Limit i, 0 to 6, on request q at t, which no check refuses. The time that has to leave is as long ago as the seconds until it does fall
+// short of an hour.
 fn look(s: &[u32], t: u32, q: u32, i: usize) -> Found
     requires { ⌜ length (now s) ≡ SIZE ⌝ }
     requires { ⌜ good (now s) ≡ true ⌝ }
+    requires { ⌜ refusal (factsOf (now s)) (timed t (ask q)) ≡ 0 ⌝ }
     requires { ⌜ i < 7 ⌝ }
     ensures { λ r. ⌜ r .stands ≡ blocks (view (now (s .entry))) t (limitAt (factsOf (now (s .entry))) q i) ⌝ }
     ensures { λ r. ⌜ r .time ≡ cond (blocks (view (now (s .entry))) t (limitAt (factsOf (now (s .entry))) q i)) (leaving (view (now (s .entry))) (limitAt (factsOf (now (s .entry))) q i)) 0 ⌝ }
 {
-    let row = request::limit(s, q, i);
-    if !request::blocks(s, row, t) {
+    let m = request::blocked_for(s, request::limit(s, q, i), t);
+    if m == 0 {
         return Found {
             stands: false,
             time: 0,
@@ -87,7 +88,7 @@ fn look(s: &[u32], t: u32, q: u32, i: usize) -> Found
     }
     Found {
         stands: true,
-        time: lists::from_newest(s, row.list, row.most),
+        time: t - (3600 - m),
     }
 }
 

@@ -5,18 +5,18 @@ use buffer::lists;
 use buffer::places as at;
 use rules::Answer;
 ghost use mathlib.Core.Path.{_≡_};
-ghost use mathlib.Core.Bool.{true, _&&_};
-ghost use Prim.Native.Nat.{_<_};
+ghost use mathlib.Core.Bool.{true, cond, _&&_};
+ghost use Prim.Native.Nat.{_≤_, _<_};
 ghost use lib.ListN.{length};
-ghost use lib.Dec.{leb, ltb};
+ghost use lib.Dec.{ltb};
 ghost use Rattle.rules.specs.Calls.{timed, ask};
-ghost use Rattle.rules.specs.Tables.{inHour, oneMore};
+ghost use Rattle.rules.specs.Tables.{oneMore, ascending};
 ghost use Rattle.rules.specs.Rules.{stands, limits, firstBlock, refusal, ruling};
 ghost use Rattle.buffer.specs.Places.{SIZE};
 ghost use Rattle.buffer.specs.Layout.{view, factsOf};
 ghost use Rattle.buffer.specs.Layout.{row as listOf};
 ghost use Rattle.buffer.specs.Good.{Shape, good};
-ghost use Rattle.buffer.specs.Lists.{Listed};
+ghost use Rattle.buffer.specs.Lists.{Listed, fullFor};
 ghost use Rattle.clock.specs.Call.{Says};
 ghost use Rattle.request.specs.Request.{limitAt, RowOf, waiting, bumped, tallied, stood, listed};
 
@@ -117,35 +117,46 @@ pub fn limit(s: &[u32], q: u32, i: usize) -> Row
     }
 }
 
-// The limit of a row blocks at t: it applies, it is not 0, and as many permits of its list are in the hour.
-pub fn blocks(s: &[u32], row: Row, t: u32) -> bool
+// The seconds until the limit of a row, by itself, would permit at t; 0 where it does not block: it applies, it is not 0, and as many
+// permits of its list are in the hour.
+pub fn blocked_for(s: &[u32], row: Row, t: u32) -> u32
     requires { ⌜ Listed (now s) (row .list) ⌝ }
-    ensures { λ r. ⌜ r ≡ (row .applies && (ltb 0 (row .most) && leb (row .most) (inHour t (listOf (now (s .entry)) (row .list))))) ⌝ }
+    requires { ⌜ ascending 0 t (listOf (now s) (row .list)) ≡ true ⌝ }
+    ensures { λ r. ⌜ r ≡ cond (row .applies && ltb 0 (row .most)) (fullFor t (row .most) (listOf (now (s .entry)) (row .list))) 0 ⌝ }
 {
     if !row.applies {
-        return false;
+        return 0;
     }
     if row.most == 0 {
-        return false;
+        return 0;
     }
-    row.most <= lists::hour_of(s, row.list, t)
+    lists::list_full_for(s, row.list, t, row.most)
 }
 
-// The number of the first limit that blocks request q at t; 0 if none.
-fn first_block(s: &[u32], t: u32, q: u32) -> u32
+// The first limit that blocks request q at t, with its seconds; 0 if none.
+fn first_block(s: &[u32], t: u32, q: u32) -> Answer
     requires { ⌜ length (now s) ≡ SIZE ⌝ }
     requires { ⌜ good (now s) ≡ true ⌝ }
+    requires { ⌜ factsOf (now s) .last ≤ t ⌝ }
     ensures { λ r. ⌜ r ≡ firstBlock (view (now (s .entry))) t (limits (factsOf (now (s .entry))) q) ⌝ }
 {
     let mut i: usize = 0;
     while i < 7 {
         let row = limit(s, q, i);
-        if blocks(s, row, t) {
-            return row.number;
+        let n = row.number;
+        let m = blocked_for(s, row, t);
+        if m != 0 {
+            return Answer {
+                number: n,
+                second: m,
+            };
         }
         i += 1;
     }
-    0
+    Answer {
+        number: 0,
+        second: 0,
+    }
 }
 
 // The answer to request q at t, by reading alone.
@@ -168,10 +179,7 @@ pub fn decide(s: &[u32], t: u32, q: u32) -> Answer
             second: wait,
         };
     }
-    Answer {
-        number: first_block(s, t, q),
-        second: 0,
-    }
+    first_block(s, t, q)
 }
 
 // ---- Acting

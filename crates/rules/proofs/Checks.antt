@@ -81,6 +81,17 @@ on-time f t e p = leb-true (f .last) t (and-left (leb (f .last) t) (leb t highes
 pub in-time : (f : Facts) (t : ℕ) (e : Event) → refusal f (timed t e) ≡ 0 → t ≤ highestTime
 in-time f t e p = leb-true t highestTime (and-right (leb (f .last) t) (leb t highestTime) (is-timely f t e p))
 
+-- one that passed check 4 fits the standing, and one that passes the three is not refused
+pub fits : (f : Facts) (t : ℕ) (e : Event) → refusal f (timed t e) ≡ 0 → stands f e ≡ true
+unfolding refusal
+fits f t e p =
+    let h = passed (inRange e) 2 (check (timely f t) 3 (check (stands f e) 4 0)) refl p .1 in
+    passed (stands f e) 4 0 refl (passed (timely f t) 3 (check (stands f e) 4 0) refl h .1) .0
+
+pub passes : (f : Facts) (t : ℕ) (e : Event) → inRange e ≡ true → f .last ≤ t → t ≤ highestTime → stands f e ≡ true → refusal f (timed t e) ≡ 0
+unfolding refusal
+passes f t e r l h s = rw (r, le-leb (f .last) t l, le-leb t highestTime h, s)
+
 -- a refused call is added to no list, and changes nothing
 pub refused-adds : (k : Kind) (c : Call) (a : Answer) → refused a ≡ true → adds k c a ≡ []
 unfolding adds

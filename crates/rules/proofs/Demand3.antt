@@ -10,16 +10,17 @@ use borrow.Author.Tests.{ltb-true, ltb-false, leb-true, leb-false, lt-ltb, le-le
 use native.Mathlib.Omega.{arith}
 use Rattle.rules.specs.declared.Answer.{Answer}
 use Rattle.rules.specs.Calls.{Given, ask, Call, timed, Entry, answer}
-use Rattle.rules.specs.Tables.{within, inHour, Kind, goes}
+use Rattle.rules.specs.Tables.{within, inHour, fromNewest, freeIn, Kind, goes}
 use Rattle.rules.specs.Record.{lastTime, permits, backOffEnd}
-use Rattle.rules.specs.Rules.{State, Facts, Limit, limits, blocks, firstBlock, refusal, runs, verdict, ruling, refused, fresh, held, heldAnswers, short}
+use Rattle.rules.specs.Rules.{State, Facts, Limit, limits, blocks, blockedBy, firstBlock, refusal, runs, verdict, ruling, refused, fresh, held, heldAnswers, short}
 use Rattle.rules.specs.Told.{tells, ruled, entered, onward, ruledAll, told}
-use Rattle.rules.specs.Demand3.{Each, Some, limitsOn, Broken, Breaks, back-off, limit, Demand3, Bytes}
+use Rattle.rules.specs.Demand3.{Each, Some, limitsOn, Broken, Returns, Breaks, back-off, limit, Demand3, Bytes}
 use Rattle.rules.proofs.Checks.{and-left, and-right, refusal-low, accepted, permit-passed, on-time}
 use Rattle.rules.proofs.Groups.{of-four}
 use Rattle.rules.proofs.RecordTells.{known-tells, answers-told}
-use Rattle.rules.proofs.Newest.{Rising, rising-more, fresh-sound, known-sound, bounded}
+use Rattle.rules.proofs.Newest.{Rising, rising-more, within-past, within-late, blocks-full, fresh-sound, known-sound, bounded}
 use Rattle.rules.proofs.Hour.{rolling-hour}
+use Rattle.rules.proofs.Leaving.{full-leaves}
 
 each-both : {P Q R : Limit → Type 0} (rs : List Limit) → ((r : Limit) → P r → Q r → R r) → Each P rs → Each Q rs → Each R rs
 each-both [] f p q = tt
@@ -44,7 +45,11 @@ numbered : (f : Facts) (q : ℕ) → Each (λ r. (0 < r .number) × (r .number �
 unfolding limits
 numbered f q = omega arith
 
-module _ (g : Given) (past : List Entry) (t : ℕ) where
+-- the permits of a record rise to its last time
+abbrev pub Rises : Given → List Entry → Type 0
+Rises g past = (k : Kind) → Rising (g .opening .opened) (permits k past) (lastTime g past)
+
+module _ (g : Given) (past : List Entry) (up : Rises g past) (t : ℕ) where
   w : State
   w = tells g past
 
@@ -55,63 +60,86 @@ module _ (g : Given) (past : List Entry) (t : ℕ) where
       let h : leb (r .most) n ≡ false = rw (p, lt-ltb 0 (r .most) q) at e in
       rw (in-hour-more t (permits (r .kind) past)) (leb-false (r .most) n h)
 
-  broken : (r : Limit) → blocks w t r ≡ true → Broken past t r
-  unfolding blocks w tells
-  broken r e =
-      let h = and-right (r .applies) _ e in
-      let n = inHour t (permits (r .kind) past) in
-      let over : r .most ≤ n = leb-true (r .most) n (and-right (ltb 0 (r .most)) _ h) in
+  broken : (u : ℕ) (r : Limit) → blocks w u r ≡ true → Broken past u r
+  unfolding w tells
+  broken u r e =
+      let f = blocks-full w u r e in
+      record { applies = f .applies; above = f .above; over = rw (in-hour-more u (permits (r .kind) past)) (omega (arith, f .over)) }
+
+  -- a limit that blocks at t, which is not before the last time, would permit after the seconds of its answer
+  returns : lastTime g past ≤ t → (r : Limit) → blocks w t r ≡ true → Returns past t r (freeIn t (r .most) (permits (r .kind) past))
+  unfolding w tells
+  returns late r e =
+      let f = blocks-full w t r e in
+      let l = permits (r .kind) past in
+      let h = full-leaves w t r (g .opening .opened) (rising-more _ l _ t (up (r .kind)) late) e in
+      let p = fromNewest (r .most) l in
+      let in-hour : t < p + 3600 = within-late t p (h .in-hour) in
+      let gone : p ≤ t = within-past t p (h .in-hour) in
       record {
-        applies = and-left (r .applies) _ e;
-        above = ltb-true 0 (r .most) (and-left (ltb 0 (r .most)) _ h);
-        over = rw (in-hour-more t (permits (r .kind) past)) (omega arith);
+        seconds = refl;
+        some = omega (arith, in-hour);
+        an-hour = omega (arith, gone);
+        before = λ u a b. record { applies = f .applies; above = f .above; over = rw (in-hour-more u l) (omega (arith, h .until u a (omega (arith, in-hour, b)))) };
+        then = λ u b x. omega (arith, in-hour, rw (in-hour-more u l) at (x .over), h .from u (omega (arith, in-hour, b)));
       }
 
-  all-kept : (rs : List Limit) → Each (λ r. (0 < r .number) × (r .number ≢ 10)) rs → firstBlock w t rs ≡ 0 → Each (Kept past t) rs
+  all-kept : (rs : List Limit) → Each (λ r. (0 < r .number) × (r .number ≢ 10)) rs → firstBlock w t rs .number ≡ 0 → Each (Kept past t) rs
   all-kept [] n h = tt
   all-kept (r ∷ rs) n h = go (blocks w t r) refl h (all-kept rs (n .1))
     where
-      go : (b : Bool) → blocks w t r ≡ b → cond b (r .number) (firstBlock w t rs) ≡ 0 → (firstBlock w t rs ≡ 0 → Each (Kept past t) rs) → Each (Kept past t) (r ∷ rs)
+      go : (b : Bool) → blocks w t r ≡ b → (cond b (blockedBy w t r) (firstBlock w t rs)) .number ≡ 0
+          → (firstBlock w t rs .number ≡ 0 → Each (Kept past t) rs) → Each (Kept past t) (r ∷ rs)
       go true e h k = absurd (omega (arith, n .0 .0))
       go false e h k = (kept r e, k h)
 
-  found : (rs : List Limit) → firstBlock w t rs ≢ 0 → Some (λ r. (r .number ≡ firstBlock w t rs) × Broken past t r) rs
-  found [] h = absurd (h refl)
-  found (r ∷ rs) h = go (blocks w t r) refl h (found rs)
+  -- a limit that answers a
+  abbrev Blocker : Answer → Limit → Type 0
+  Blocker a r = (r .number ≡ a .number) × (Broken past t r × Returns past t r (a .second))
+
+  found : lastTime g past ≤ t → (rs : List Limit) → firstBlock w t rs .number ≢ 0 → Some (Blocker (firstBlock w t rs)) rs
+  unfolding w tells
+  found late [] h = absurd (h refl)
+  found late (r ∷ rs) h = go (blocks w t r) refl h (found late rs)
     where
-      go : (b : Bool) → blocks w t r ≡ b → cond b (r .number) (firstBlock w t rs) ≢ 0
-          → (firstBlock w t rs ≢ 0 → Some (λ x. (x .number ≡ firstBlock w t rs) × Broken past t x) rs)
-          → Some (λ x. (x .number ≡ cond b (r .number) (firstBlock w t rs)) × Broken past t x) (r ∷ rs)
-      go true e h k = inl (refl, broken r e)
+      go : (b : Bool) → blocks w t r ≡ b → (cond b (blockedBy w t r) (firstBlock w t rs)) .number ≢ 0
+          → (firstBlock w t rs .number ≢ 0 → Some (Blocker (firstBlock w t rs)) rs)
+          → Some (Blocker (cond b (blockedBy w t r) (firstBlock w t rs))) (r ∷ rs)
+      go true e h k = inl (refl, (broken t r e, returns late r e))
       go false e h k = inr (k h)
 
   -- what an answer a to request q, which no check refuses, tells
   data Decided (q : ℕ) (a : Answer) : Type 0 where
     permitted : a .number ≡ 0 → (q ≤ 3 → backOffEnd g q past ≤ t) → Each (Kept past t) (limitsOn g past q) → Decided q a
-    blocked : a .number ≢ 0 → Breaks g past t q (a .number) → Decided q a
+    blocked : a .number ≢ 0 → Breaks g past t q a → Decided q a
 
   end-held : (q : ℕ) → q ≤ 3 → getD (w .facts .services .ends) q 0 ≡ backOffEnd g q past
   unfolding w tells
   end-held q h = of-four (λ s. backOffEnd g s past) q h
 
   decided : (q : ℕ) → refusal (w .facts) (timed t (ask q)) ≡ 0 → Decided q (ruling w (timed t (ask q)))
-  unfolding ruling verdict runs w
+  unfolding ruling verdict runs w tells
   decided q passed = rw (eq-eqb _ 0 passed) (go (leb q 3) (ltb t end) refl refl)
     where
       end : ℕ
       end = getD (w .facts .services .ends) q 0
 
-      first : ℕ
+      first : Answer
       first = firstBlock w t (limits (w .facts) q)
 
-      rest : (q ≤ 3 → backOffEnd g q past ≤ t) → (n : ℕ) → first ≡ n → Decided q (answer n 0)
-      rest h zero e = permitted refl h (all-kept (limits (w .facts) q) (numbered (w .facts) q) e)
-      rest h (suc n) e = blocked (omega arith) (limit (suc n) (rw e at (found (limits (w .facts) q) (rw e (omega arith)))))
+      late : lastTime g past ≤ t
+      late = on-time (w .facts) t (ask q) passed
 
-      go : (x y : Bool) → leb q 3 ≡ x → ltb t end ≡ y → Decided q (cond (x && y) (answer 10 (end - t)) (answer first 0))
-      go true true p z = blocked (omega arith) (back-off (leb-true q 3 p) (rw (end-held q (leb-true q 3 p)) at (ltb-true t end z)))
-      go true false p z = rest (λ h. rw (end-held q h) at (ltb-false t end z)) first refl
-      go false y p z = rest (λ h. absurd (omega (arith, leb-false q 3 p))) first refl
+      rest : (q ≤ 3 → backOffEnd g q past ≤ t) → (n : ℕ) → first .number ≡ n → Decided q first
+      rest h zero e = permitted e h (all-kept (limits (w .facts) q) (numbered (w .facts) q) e)
+      rest h (suc n) e = let some : first .number ≢ 0 = rw e (omega arith) in blocked some (limit first (found late (limits (w .facts) q) some))
+
+      go : (x y : Bool) → leb q 3 ≡ x → ltb t end ≡ y → Decided q (cond (x && y) (answer 10 (end - t)) first)
+      go true true p z =
+          let h = leb-true q 3 p in
+          rw (end-held q h) (blocked (omega arith) (back-off h (rw (end-held q h) at (ltb-true t end z))))
+      go true false p z = rest (λ h. rw (end-held q h) at (ltb-false t end z)) (first .number) refl
+      go false y p z = rest (λ h. absurd (omega (arith, leb-false q 3 p))) (first .number) refl
 
   -- a permit keeps every limit, and no back-off of its service runs
   record Within (q : ℕ) : Type 0 where
@@ -126,13 +154,19 @@ module _ (g : Given) (past : List Entry) (t : ℕ) where
   unfolding w
   permit q e = permit-within q _ (decided q (permit-passed w (timed t (ask q)) e)) e
 
-  block-breaks : (q : ℕ) (a : Answer) → Decided q a → a .number ≢ 0 → Breaks g past t q (a .number)
+  block-breaks : (q : ℕ) (a : Answer) → Decided q a → a .number ≢ 0 → Breaks g past t q a
   block-breaks q a (permitted x y z) e = absurd (e x)
   block-breaks q a (blocked x y) e = y
 
-  block : (q : ℕ) → refused (ruled g past (timed t (ask q))) ≡ false → ruled g past (timed t (ask q)) .number ≢ 0 → Breaks g past t q (ruled g past (timed t (ask q)) .number)
+  block : (q : ℕ) → refused (ruled g past (timed t (ask q))) ≡ false → ruled g past (timed t (ask q)) .number ≢ 0 → Breaks g past t q (ruled g past (timed t (ask q)))
   unfolding w
   block q r e = block-breaks q _ (decided q (accepted w (timed t (ask q)) r)) e
+
+-- ---- After any calls
+
+pub rises : (g : Given) → Bytes (g .opening) → (before : List Call) → Rises g (told g before)
+unfolding tells
+rises g b before k = rw (known-tells g before) at (known-sound (fresh g) (fresh-sound g b) before .rising k)
 
 -- ---- A limit that applies to a request counts the list that its permit goes to
 
@@ -146,7 +180,7 @@ counts-own f q = (and-right on (eqb q 5), (inner 1, (inner 2, (inner 3, (and-rig
     inner : (m : ℕ) → (on && (eqb q 2 && eqb (f .services .mood) m)) ≡ true → eqb q 2 ≡ true
     inner m e = and-left (eqb q 2) _ (and-right on _ e)
 
-onward-append : (g : Given) (past : List Entry) (cs ds : List Call) → onward g past (cs ++ ds) ≡ onward g (onward g past cs) ds
+pub onward-append : (g : Given) (past : List Entry) (cs ds : List Call) → onward g past (cs ++ ds) ≡ onward g (onward g past cs) ds
 onward-append g past [] ds = refl
 onward-append g past (c ∷ cs) ds = onward-append g (entered c (ruled g past c) past) cs ds
 
@@ -156,20 +190,16 @@ permit-added : (g : Given) (before : List Call) (t q : ℕ) (k : Kind) → ruled
 unfolding permits
 permit-added g before t q k e h = rw (onward-append g [] before (timed t (ask q) ∷ []), e, h)
 
-bound : (g : Given) (before : List Call) (t q : ℕ) → ruled g (told g before) (timed t (ask q)) .number ≡ 0
+bound : (g : Given) → Bytes (g .opening) → (before : List Call) (t q : ℕ) → ruled g (told g before) (timed t (ask q)) .number ≡ 0
     → Each (λ r. r .applies ≡ true → 0 < r .most → inHour t (permits (r .kind) (told g (before ++ (timed t (ask q) ∷ [])))) ≤ r .most) (limitsOn g (told g before) q)
-bound g before t q e = each-both (limitsOn g (told g before) q) itself (counts-own (tells g (told g before) .facts) q) (permit g (told g before) t q e .every-limit)
+bound g b before t q e =
+    each-both (limitsOn g (told g before) q) itself (counts-own (tells g (told g before) .facts) q) (permit g (told g before) (rises g b before) t q e .every-limit)
   where
     itself : (r : Limit) → (r .applies ≡ true → goes q (r .kind) ≡ true) → Kept (told g before) t r
         → r .applies ≡ true → 0 < r .most → inHour t (permits (r .kind) (told g (before ++ (timed t (ask q) ∷ [])))) ≤ r .most
     itself r own k p m = rw (permit-added g before t q (r .kind) e (own p)) (k p m)
 
 -- ---- The same without counting
-
--- the record's permits rise to the last time
-rising : (g : Given) → Bytes (g .opening) → (before : List Call) (k : Kind) → Rising (g .opening .opened) (permits k (told g before)) (lastTime g (told g before))
-unfolding tells
-rising g b before k = rw (known-tells g before) at (known-sound (fresh g) (fresh-sound g b) before .rising k)
 
 -- of more permits than a limit that applies, the one so many places before a permit at t is at least 3,600 seconds older
 abbrev pub Spaced : List Entry → ℕ → Limit → Type 0
@@ -195,18 +225,18 @@ spaced g b before t q e = each-both (limitsOn g past q) (λ r k x. spaced-one pa
     late = on-time (tells g past .facts) t (ask q) (permit-passed (tells g past) (timed t (ask q)) e)
 
     up : (k : Kind) → Rising (g .opening .opened) (permits k past) t
-    up k = rising-more _ (permits k past) _ t (rising g b before k) late
+    up k = rising-more _ (permits k past) _ t (rises g b before k) late
 
     kept : Each (Kept past t) (limitsOn g past q)
-    kept = permit g past t q e .every-limit
+    kept = permit g past (rises g b before) t q e .every-limit
 
 -- ---- 10 is no answer to request 5
 
-first-is : (P : ℕ → Type 0) (w : State) (t : ℕ) (rs : List Limit) → P 0 → Each (λ r. P (r .number)) rs → P (firstBlock w t rs)
+pub first-is : (P : ℕ → Type 0) (w : State) (t : ℕ) (rs : List Limit) → P 0 → Each (λ r. P (r .number)) rs → P (firstBlock w t rs .number)
 first-is P w t [] z h = z
 first-is P w t (r ∷ rs) z h = go (blocks w t r) (first-is P w t rs z (h .1))
   where
-    go : (b : Bool) → P (firstBlock w t rs) → P (cond b (r .number) (firstBlock w t rs))
+    go : (b : Bool) → P (firstBlock w t rs .number) → P ((cond b (blockedBy w t r) (firstBlock w t rs)) .number)
     go true x = h .0
     go false x = x
 
@@ -221,19 +251,20 @@ reset-not-held w t = go (eqb (refusal (w .facts) (timed t (ask 5))) 0)
 -- ---- The demand
 
 -- whoever answers the next call as the rules do over the record keeps the demand
-pub as-the-rules : (g : Given) (before : List Call) (next : Call → Answer) → ((c : Call) → next c ≡ ruled g (told g before) c) → Demand3 g before next
-as-the-rules g before next same = record {
+pub as-the-rules : (g : Given) → Bytes (g .opening) → (before : List Call) (next : Call → Answer) → ((c : Call) → next c ≡ ruled g (told g before) c)
+    → Demand3 g before next
+as-the-rules g b before next same = record {
   as-the-record = same;
-  no-permit-in-back-off = λ t q e. permit g (told g before) t q (rw (same (timed t (ask q))) at e) .no-back-off;
+  no-permit-in-back-off = λ t q e. permit g (told g before) (rises g b before) t q (rw (same (timed t (ask q))) at e) .no-back-off;
   resets-not-held = λ t. rw (same (timed t (ask 5))) (reset-not-held (tells g (told g before)) t);
-  at-most = λ t q e. bound g before t q (rw (same (timed t (ask q))) at e);
-  blocked-by-a-rule = λ t q. rw (same (timed t (ask q))) (block g (told g before) t q);
+  at-most = λ t q e. bound g b before t q (rw (same (timed t (ask q))) at e);
+  blocked-by-a-rule = λ t q. rw (same (timed t (ask q))) (block g (told g before) (rises g b before) t q);
 }
 
 -- DEMAND 3 of what a buffer holds, for every opening whose limits are bytes, and every sequence of calls after it
 pub demand-3 : (g : Given) → Bytes (g .opening) → (before : List Call) → Demand3 g before (λ c. ruling (held (fresh g) before) c)
 demand-3 g b before =
-    as-the-rules g before (λ c. ruling (held (fresh g) before) c) (λ c. bounded g b before .next c ∙ ap (λ (w : State). ruling w c) (known-tells g before))
+    as-the-rules g b before (λ c. ruling (held (fresh g) before) c) (λ c. bounded g b before .next c ∙ ap (λ (w : State). ruling w c) (known-tells g before))
 
 -- what a buffer holds is what the record tells, each list cut to its newest 255; its answers so far are the rules' over the record
 pub held-told : (g : Given) → Bytes (g .opening) → (cs : List Call) → held (fresh g) cs ≡ short (tells g (told g cs))

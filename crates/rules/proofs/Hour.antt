@@ -1,6 +1,6 @@
 -- What the count in the hour means without counting: a limit is full just when the permit so many places from the newest is less than
 -- 3,600 seconds old. Assumes nothing.
-use Prim.Native.Nat.{ℕ, suc, _+_, _-_, _≤_, _<_}
+use Prim.Native.Nat.{ℕ, suc, _+_, _-_, _<_}
 use mathlib.Core.Path.{_≡_, refl, sym, _∙_}
 use mathlib.Core.Bool.{Bool, true, false, cond, _&&_, false≢true}
 use mathlib.Core.List.{List, [], _∷_}
@@ -9,16 +9,7 @@ use lib.Dec.{ltb, leb}
 use borrow.Author.Tests.{ltb-true, leb-true, leb-false, lt-ltb, le-leb, lt-leb}
 use native.Mathlib.Omega.{arith}
 use Rattle.rules.specs.Tables.{within, inHour, fromNewest}
-use Rattle.rules.proofs.Newest.{Rising, rising-le, within-true, within-late, enough, all-in}
-
--- no more are in the hour than there are
-pub few : (t : ℕ) (l : List ℕ) → inHour t l ≤ length l
-few t [] = omega arith
-few t (p ∷ l) = go (within t p) (few t l)
-  where
-    go : (b : Bool) → inHour t l ≤ length l → cond b (suc (inHour t l)) (inHour t l) ≤ suc (length l)
-    go true h = omega arith
-    go false h = omega arith
+use Rattle.rules.proofs.Newest.{Rising, rising-le, within-true, within-late, few, enough, all-in}
 
 -- L or more of a list that rises to t are in its hour just when there are L and the time L places from the newest is less than 3,600 s ago
 pub rolling-hour : (L t a : ℕ) (l : List ℕ) → 0 < L → Rising a l t → leb L (inHour t l) ≡ (leb L (length l) && ltb t (fromNewest L l + 3600))

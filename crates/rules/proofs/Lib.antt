@@ -4,5 +4,7 @@ pub mod Groups
 pub mod RecordTells
 pub mod Newest
 pub mod Hour
+pub mod Leaving
 pub mod Demand3
+pub mod Again
 pub mod Row

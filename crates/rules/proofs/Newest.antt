@@ -1,20 +1,20 @@
 -- However long the record, the newest 255 of each list give the answers that the full lists give. Assumes nothing.
 use Prim.Native.Nat.{ℕ, zero, suc, _+_, _-_, _≤_, _<_}
-use mathlib.Core.Path.{_≡_, refl, sym, _∙_}
+use mathlib.Core.Path.{_≡_, refl, sym, ap, _∙_}
 use mathlib.Core.Bool.{Bool, true, false, cond, _&&_}
 use mathlib.Core.List.{List, [], _∷_, _++_, append-nil}
-use lib.ListN.{length, drop, length-append, length-drop}
-use lib.Seq.{drop-append-le, drop-drop}
-use lib.Dec.{leb, eqb}
-use borrow.Author.Tests.{ltb-true, lt-ltb, le-leb, eqb-true}
+use lib.ListN.{length, getD, drop, length-append, length-drop}
+use lib.Seq.{drop-append-le, drop-drop, getD-drop}
+use lib.Dec.{ltb, leb, eqb}
+use borrow.Author.Tests.{ltb-true, leb-true, lt-ltb, le-leb, eqb-true}
 use native.Mathlib.Omega.{arith}
 use Rattle.rules.specs.declared.Answer.{Answer}
 use Rattle.rules.specs.Calls.{Given, Event, ask, granted, silent, rejected, dropped, tick, Line, nfm, nfm-start, intervals, query, bad, Call, timed, typed, answer}
-use Rattle.rules.specs.Tables.{within, inHour, Kind}
+use Rattle.rules.specs.Tables.{within, inHour, fromNewest, ascending, Kind}
 use Rattle.rules.specs.Rules.{State, Facts, Limit, limits, blocks, firstBlock, refusal, verdict, ruling, refused, moved, acted, switched, obeyed, changed, onto, adds, learn}
 use Rattle.rules.specs.Rules.{fresh, known, answers, newest, short, step, held, heldAnswers}
 use Rattle.rules.specs.Demand3.{Bytes}
-use Rattle.rules.proofs.Checks.{and-right, accepted, on-time, refused-adds}
+use Rattle.rules.proofs.Checks.{and-left, and-right, accepted, on-time, refused-adds}
 
 -- ---- Lists of times that rise from a to b
 
@@ -34,11 +34,33 @@ rising-snoc : (a : ℕ) (l : List ℕ) (b t : ℕ) → Rising a l b → b ≤ t 
 rising-snoc a [] b t h g = omega arith
 rising-snoc a (p ∷ l) b t h g = (h .0, rising-snoc p l b t (h .1) g)
 
+-- times in order rise
+pub ascending-rises : (lo hi : ℕ) (l : List ℕ) → lo ≤ hi → ascending lo hi l ≡ true → Rising lo l hi
+unfolding ascending
+ascending-rises lo hi [] h e = h
+ascending-rises lo hi (x ∷ l) h e =
+    let rest = and-right (leb lo x) (leb x hi && ascending x hi l) e in
+    (leb-true lo x (and-left (leb lo x) _ e), ascending-rises x hi l (leb-true x hi (and-left (leb x hi) _ rest)) (and-right (leb x hi) _ rest))
+
+-- and between wider bounds they are in order as well
+pub ascending-wider : (lo hi a b : ℕ) (l : List ℕ) → a ≤ lo → hi ≤ b → ascending lo hi l ≡ true → ascending a b l ≡ true
+unfolding ascending
+ascending-wider lo hi a b [] h g e = refl
+ascending-wider lo hi a b (x ∷ l) h g e =
+    let rest = and-right (leb lo x) (leb x hi && ascending x hi l) e in
+    let low = leb-true lo x (and-left (leb lo x) _ e) in
+    let high = leb-true x hi (and-left (leb x hi) _ rest) in
+    rw (le-leb a x (omega (arith, low, h)), le-leb x b (omega (arith, high, g))) (ascending-wider x hi x b l (omega arith) g (and-right (leb x hi) _ rest))
+
 -- ---- The newest 255 show what a limit of at most 255 asks
 
 pub within-true : (t p : ℕ) → p ≤ t → t < p + 3600 → within t p ≡ true
 unfolding within
 within-true t p h g = rw (le-leb p t h, lt-ltb t (p + 3600) g)
+
+pub within-past : (t p : ℕ) → within t p ≡ true → p ≤ t
+unfolding within
+within-past t p e = leb-true p t (and-left (leb p t) _ e)
 
 pub within-late : (t p : ℕ) → within t p ≡ true → t < p + 3600
 unfolding within
@@ -47,6 +69,15 @@ within-late t p e = ltb-true t (p + 3600) (and-right (leb p t) _ e)
 pub all-in : (a t : ℕ) (l : List ℕ) → Rising a l t → t < a + 3600 → inHour t l ≡ length l
 all-in a t [] h g = refl
 all-in a t (p ∷ l) h g = rw (within-true t p (rising-le p l t (h .1)) (omega arith), all-in p t l (h .1) (omega arith))
+
+-- no more are in the hour than there are
+pub few : (t : ℕ) (l : List ℕ) → inHour t l ≤ length l
+few t [] = omega arith
+few t (p ∷ l) = go (within t p) (few t l)
+  where
+    go : (b : Bool) → inHour t l ≤ length l → cond b (suc (inHour t l)) (inHour t l) ≤ suc (length l)
+    go true h = omega arith
+    go false h = omega arith
 
 pub enough : (m t p : ℕ) (l : List ℕ) → Rising p l t → m ≤ length l → leb m (inHour t l) ≡ leb m (inHour t (p ∷ l))
 enough m t p l h g = go (within t p) refl
@@ -64,6 +95,14 @@ cut m t a (suc d) (p ∷ l) g h k = cut m t p d l g (h .1) (omega arith) ∙ eno
 pub newest-counts : (m t a : ℕ) (l : List ℕ) → m ≤ 255 → Rising a l t → leb m (inHour t (newest l)) ≡ leb m (inHour t l)
 unfolding newest
 newest-counts m t a l g h = cut m t a (length l - 255) l g h (omega arith)
+
+-- and so is the time so many places from the newest
+pub from-newest-same : (m : ℕ) (l : List ℕ) → m ≤ 255 → fromNewest m (newest l) ≡ fromNewest m l
+unfolding newest
+from-newest-same m l h =
+    let d = length l - 255 in
+    let e : length l - 255 + (length l - (length l - 255) - m) ≡ length l - m = omega arith in
+    ap (λ (n : ℕ). getD (drop d l) (n - m) 0) (length-drop d l) ∙ getD-drop d l (length l - d - m) 0 ∙ ap (λ (n : ℕ). getD l n 0) e
 
 -- ---- Cutting and adding
 
@@ -88,6 +127,27 @@ pub limits-small : (f : Facts) (q : ℕ) → Bytes (f .opening) → Small (limit
 unfolding limits
 limits-small f q b = (b .N1, (b .F1, (b .F2, (b .F3, (b .F4, (b .A1, (b .S1, tt)))))))
 
+-- ---- A limit that blocks applies, is above 0, and so many are in the hour and so on its list
+
+pub record Full (w : State) (t : ℕ) (r : Limit) : Type 0 where
+  pub applies : r .applies ≡ true
+  pub above : 0 < r .most
+  pub over : r .most ≤ inHour t (w .lists (r .kind))
+  pub listed : r .most ≤ length (w .lists (r .kind))
+
+pub blocks-full : (w : State) (t : ℕ) (r : Limit) → blocks w t r ≡ true → Full w t r
+unfolding blocks
+blocks-full w t r e =
+    let l = w .lists (r .kind) in
+    let h = and-right (r .applies) _ e in
+    let n = leb-true (r .most) (inHour t l) (and-right (ltb 0 (r .most)) _ h) in
+    record {
+      applies = and-left (r .applies) _ e;
+      above = ltb-true 0 (r .most) (and-left (ltb 0 (r .most)) _ h);
+      over = n;
+      listed = omega (arith, n, few t l);
+    }
+
 -- ---- The ruling is the same over the newest 255
 
 module _ (w : State) (s : Sound w) (t : ℕ) (late : w .facts .last ≤ t) where
@@ -98,8 +158,9 @@ module _ (w : State) (s : Sound w) (t : ℕ) (late : w .facts .last ≤ t) where
       rw (newest-counts (r .most) t (w .facts .opening .opened) (w .lists (r .kind)) h up)
 
   first-same : (rs : List Limit) → Small rs → firstBlock (short w) t rs ≡ firstBlock w t rs
+  unfolding short
   first-same [] h = refl
-  first-same (r ∷ rs) h = rw (blocks-same r (h .0), first-same rs (h .1))
+  first-same (r ∷ rs) h = rw (blocks-same r (h .0), first-same rs (h .1), from-newest-same (r .most) _ (h .0))
 
   ask-same : (q : ℕ) → verdict (short w) (timed t (ask q)) ≡ verdict w (timed t (ask q))
   unfolding verdict short

@@ -1,5 +1,6 @@
 pub mod Calls
 pub mod Tables
+pub mod Leaves
 pub mod Record
 pub mod Rules
 pub mod Told

@@ -6,7 +6,7 @@ use lib.ListN.{length, getD, set, drop}
 use lib.Dec.{ltb, leb, eqb}
 use Rattle.rules.specs.declared.Answer.{Answer}
 use Rattle.rules.specs.Calls.{Opening, Given, Event, ask, granted, silent, rejected, dropped, tick, Line, nfm, nfm-start, intervals, query, bad, Call, timed, typed, answer}
-use Rattle.rules.specs.Tables.{highestTime, inHour, Kind, attach, activation, pdp, sms, reset, goes, action, moodOn, oneMore, waitFor, scheduled, six, ofSix}
+use Rattle.rules.specs.Tables.{highestTime, inHour, freeIn, Kind, attach, activation, pdp, sms, reset, goes, action, moodOn, oneMore, waitFor, scheduled, six, ofSix}
 
 -- ---- What is known
 
@@ -65,10 +65,14 @@ limits f q =
 unfoldable pub blocks : State → ℕ → Limit → Bool
 blocks w t r = r .applies && (ltb 0 (r .most) && leb (r .most) (inHour t (w .lists (r .kind))))
 
--- the number of the first limit that blocks, and 0 if none does
-abbrev pub firstBlock : State → ℕ → List Limit → ℕ
-firstBlock w t [] = 0
-firstBlock w t (r ∷ rs) = cond (blocks w t r) (r .number) (firstBlock w t rs)
+-- what a limit that blocks answers: its number, and the seconds until it would permit by itself
+abbrev pub blockedBy : State → ℕ → Limit → Answer
+blockedBy w t r = answer (r .number) (freeIn t (r .most) (w .lists (r .kind)))
+
+-- the first limit that blocks answers, and 0 if none does
+abbrev pub firstBlock : State → ℕ → List Limit → Answer
+firstBlock w t [] = answer 0 0
+firstBlock w t (r ∷ rs) = cond (blocks w t r) (blockedBy w t r) (firstBlock w t rs)
 
 -- ---- Checks 2 to 5, in their order
 
@@ -128,7 +132,7 @@ unfoldable pub verdict : State → Call → Answer
 verdict w (timed t (ask q)) =
     cond (runs (w .facts) t q)
     (answer 10 (getD (w .facts .services .ends) q 0 - t))
-    (answer (firstBlock w t (limits (w .facts) q)) 0)
+    (firstBlock w t (limits (w .facts) q))
 verdict w (timed t (granted s)) = answer 0 0
 verdict w (timed t (silent s)) = failed (w .facts) s 20
 verdict w (timed t (rejected s cause second)) = failed (w .facts) s (action s cause second)

@@ -24,6 +24,10 @@ inHour t (p ∷ l) = cond (within t p) (suc (inHour t l)) (inHour t l)
 abbrev pub fromNewest : ℕ → List ℕ → ℕ
 fromNewest m l = getD l (length l - m) 0
 
+-- where L or more of a list are in the hour of t, the seconds until fewer are: the time L places from the newest, plus 3,600, less now
+abbrev pub freeIn : ℕ → ℕ → List ℕ → ℕ
+freeIn t L l = fromNewest L l + 3600 - t
+
 pub data Kind : Type 0 where
   attach activation pdp sms reset : Kind
 

@@ -1,41 +1,64 @@
 -- `reasons::look` meets its contract. Assumes nothing.
-use mathlib.Core.Path.{sym, _∙_}
-use native.Mathlib.Omega.{arith}
-use borrow.Author.Tests.{not-true, not-false}
-use Rattle.buffer.specs.Layout.{row}
-use Rattle.reasons.proofs.Alone.{blocks-enough, row-leaving}
-use Rattle.request.proofs.Deciding.{row-stands, row-blocks}
+use mathlib.Core.Path.{_≡_, sym}
+use mathlib.Core.List.{List}
+use Prim.Native.Nat.{ℕ, _≤_}
+use Rattle.rules.specs.Calls.{timed, ask}
+use Rattle.rules.specs.Rules.{refusal}
+use Rattle.rules.proofs.Checks.{on-time}
+use Rattle.buffer.specs.Layout.{factsOf}
+use Rattle.request.proofs.Deciding.{row-stands, row-rises, row-on, row-time, row-off}
 use borrow.Author.Needs.{needs}
 use Rattle.reasons.proofs.look.Statement.{statement}
 use Rattle.reasons.proofs.look.Tie as tie
 
+late : (b : List ℕ) (t q : ℕ) → refusal (factsOf b) (timed t (ask q)) ≡ 0 → factsOf b .last ≤ t
+late b t q = on-time (factsOf b) t (ask q)
+
 limit-requires : tie.Need-limit-requires
 limit-requires c κs = search needs
 
-blocks-requires : tie.Need-blocks-requires
-blocks-requires c κs = let x = c .before .before in row-stands (x .args .s .now) (x .args .t) (x .args .q) (x .args .i) (c .limit .result) (c .limit .ensures) (x .pre .1 .0)
+blocked-for-requires : tie.Need-blocked-for-requires
+blocked-for-requires c κs =
+    let x = c .before .before in
+    let a = x .args in
+    let r = c .limit in
+    (row-stands (a .s .now) (a .t) (a .q) (a .i) (r .result) (r .ensures) (x .pre .1 .0), row-rises (a .s .now) (a .t) (a .q) (a .i) (r .result) (r .ensures) (x .pre .1 .0) (late (a .s .now) (a .t) (a .q) (x .pre .1 .1 .0)))
 
 returns : tie.Need-returns
 returns c =
-    let x = c .before .before .before .before .args in
-    let e = sym (not-true (c .before .blocks2 .result) (c .if1 .taken)) ∙ c .before .blocks2 .ensures ∙ row-blocks (x .s .now) (x .t) (x .q) (x .i) (c .before .before .limit .result) (c .before .before .limit .ensures) in
-    (e, rw (sym e))
-
-from-newest-requires : tie.Need-from-newest-requires
-from-newest-requires c κs =
     let x = c .before .before .before .before in
-    let l = c .before .before .limit in
-    let r = l .result in
-    let f = blocks-enough (r .applies) (r .most) (x .args .t) (row (x .args .s .now) (r .list)) (sym (c .before .blocks2 .ensures) ∙ not-false (c .before .blocks2 .result) (c .if1 .left)) in
-    (row-stands (x .args .s .now) (x .args .t) (x .args .q) (x .args .i) r (l .ensures) (x .pre .1 .0), (omega (arith, f .0), omega (arith, f .0, f .1)))
+    let a = x .args in
+    let r = c .before .before .limit in
+    let m = c .before .blocked-for in
+    let e = row-off (a .s .now) (a .t) (a .q) (a .i) (r .result) (r .ensures) (x .pre .1 .0) (late (a .s .now) (a .t) (a .q) (x .pre .1 .1 .0)) (m .result) (m .ensures) (c .if1 .taken) in
+    (sym e, rw e)
+
+sub-t8 : tie.Need-sub-t8
+sub-t8 c =
+    let x = c .before .before .before .before in
+    let a = x .args in
+    let r = c .before .before .limit in
+    let m = c .before .blocked-for in
+    row-time (a .s .now) (a .t) (a .q) (a .i) (r .result) (r .ensures) (x .pre .1 .0) (late (a .s .now) (a .t) (a .q) (x .pre .1 .1 .0)) (m .result) (m .ensures) (c .if1 .left) .0
+
+sub-t9 : tie.Need-sub-t9
+sub-t9 c =
+    let x = c .before .before .before .before in
+    let a = x .args in
+    let r = c .before .before .limit in
+    let m = c .before .blocked-for in
+    row-time (a .s .now) (a .t) (a .q) (a .i) (r .result) (r .ensures) (x .pre .1 .0) (late (a .s .now) (a .t) (a .q) (x .pre .1 .1 .0)) (m .result) (m .ensures) (c .if1 .left) .1 .0
 
 returns-2 : tie.Need-returns-2
 returns-2 c =
-    let x = c .before .before .before .before .before .args in
-    let r = c .before .before .before .limit in
-    let e = sym (not-false (c .before .before .blocks2 .result) (c .before .if1 .left)) ∙ c .before .before .blocks2 .ensures ∙ row-blocks (x .s .now) (x .t) (x .q) (x .i) (r .result) (r .ensures) in
-    (e, rw (sym e) (c .from-newest .ensures ∙ row-leaving (x .s .now) (x .q) (x .i) (r .result) (r .ensures)))
+    let x = c .before .before .before .before in
+    let a = x .args in
+    let r = c .before .before .limit in
+    let m = c .before .blocked-for in
+    let e = row-on (a .s .now) (a .t) (a .q) (a .i) (r .result) (r .ensures) (x .pre .1 .0) (late (a .s .now) (a .t) (a .q) (x .pre .1 .1 .0)) (m .result) (m .ensures) (c .if1 .left) .0 in
+    let d = row-time (a .s .now) (a .t) (a .q) (a .i) (r .result) (r .ensures) (x .pre .1 .0) (late (a .s .now) (a .t) (a .q) (x .pre .1 .1 .0)) (m .result) (m .ensures) (c .if1 .left) .1 .1 in
+    (sym e, rw e d)
 
 pub look-spec : {M : Type 1} → statement M
 look-spec =
-    tie.close (tie.spec limit-requires blocks-requires returns from-newest-requires returns-2)
+    tie.close (tie.spec limit-requires blocked-for-requires returns sub-t8 sub-t9 returns-2)

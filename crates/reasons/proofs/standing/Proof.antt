@@ -30,7 +30,7 @@ look-requires-6 : tie.Need-look-requires-6
 look-requires-6 c κs = search needs
 
 look-requires-7 : tie.Need-look-requires-7
-look-requires-7 c κs = let x = c .before .before .before .before .before .before .before .before in (x .pre .0, (x .pre .1 .0, lit< tt))
+look-requires-7 c κs = let x = c .before .before .before .before .before .before .before .before in (x .pre .0, (x .pre .1 .0, (x .pre .1 .1, lit< tt)))
 
 weigh-requires : tie.Need-weigh-requires
 weigh-requires c κs = search needs

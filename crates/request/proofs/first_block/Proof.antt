@@ -3,9 +3,10 @@ use mathlib.Core.Path.{_≡_, refl, sym, _∙_}
 use Prim.Native.Nat.{_-_, _≤_}
 use lib.ListN.{drop}
 use native.Mathlib.Omega.{arith}
-use Rattle.rules.specs.Rules.{limits, blocks, firstBlock}
+use Rattle.rules.specs.Calls.{answer}
+use Rattle.rules.specs.Rules.{limits, firstBlock}
 use Rattle.buffer.specs.Layout.{factsOf, view}
-use Rattle.request.proofs.Deciding.{row-stands, row-blocks, first-at}
+use Rattle.request.proofs.Deciding.{row-stands, row-rises, row-on, row-off, first-at}
 use borrow.Author.Needs.{needs}
 use Rattle.request.proofs.first_block.Statement.{statement}
 use Rattle.request.proofs.first_block.Tie as tie
@@ -22,18 +23,23 @@ loop-holds c = (omega arith, refl)
 limit-requires : tie.Need-limit-requires Inv-loop μ-loop
 limit-requires c κs = search needs
 
-blocks-requires : tie.Need-blocks-requires Inv-loop μ-loop
-blocks-requires c κs =
+blocked-for-requires : tie.Need-blocked-for-requires Inv-loop μ-loop
+blocked-for-requires c κs =
     let x = c .before .before .before .before in
-    row-stands (x .args .s .now) (x .args .t) (x .args .q) (c .before .before .loop .i) (c .limit .result) (c .limit .ensures) (x .pre .1)
+    let a = x .args in
+    let i = c .before .before .loop .i in
+    let r = c .limit in
+    (row-stands (a .s .now) (a .t) (a .q) i (r .result) (r .ensures) (x .pre .1 .0), row-rises (a .s .now) (a .t) (a .q) i (r .result) (r .ensures) (x .pre .1 .0) (x .pre .1 .1))
 
 returns : tie.Need-returns Inv-loop μ-loop
 returns c =
-    let x = c .before .before .before .before .before .before .args in
+    let x = c .before .before .before .before .before .before in
+    let a = x .args in
     let l = c .before .before .before .before .loop in
     let r = c .before .before .limit in
-    let e = sym (row-blocks (x .s .now) (x .t) (x .q) (l .i) (r .result) (r .ensures)) ∙ sym (c .before .blocks2 .ensures) ∙ c .if1 .taken in
-    sym (l .inv .1 ∙ first-at (view (x .s .now)) (x .t) (x .q) (l .i) (c .before .before .before .loop-test .taken) ∙ rw (e, r .ensures .number))
+    let m = c .before .blocked-for in
+    let e = row-on (a .s .now) (a .t) (a .q) (l .i) (r .result) (r .ensures) (x .pre .1 .0) (x .pre .1 .1) (m .result) (m .ensures) (c .if1 .taken) in
+    (λ j. answer (r .ensures .number j) (e .1 j)) ∙ sym (l .inv .1 ∙ first-at (view (a .s .now)) (a .t) (a .q) (l .i) (c .before .before .before .loop-test .taken) ∙ rw (e .0))
 
 add-i : tie.Need-add-i Inv-loop μ-loop
 add-i c = search needs
@@ -43,11 +49,13 @@ loop-less c = search needs
 
 loop-again : tie.Need-loop-again Inv-loop μ-loop
 loop-again c =
-    let x = c .before .before .before .before .before .before .args in
+    let x = c .before .before .before .before .before .before in
+    let a = x .args in
     let l = c .before .before .before .before .loop in
     let r = c .before .before .limit in
-    let e = sym (row-blocks (x .s .now) (x .t) (x .q) (l .i) (r .result) (r .ensures)) ∙ sym (c .before .blocks2 .ensures) ∙ c .if1 .left in
-    (omega arith, l .inv .1 ∙ first-at (view (x .s .now)) (x .t) (x .q) (l .i) (c .before .before .before .loop-test .taken) ∙ rw e)
+    let m = c .before .blocked-for in
+    let e = row-off (a .s .now) (a .t) (a .q) (l .i) (r .result) (r .ensures) (x .pre .1 .0) (x .pre .1 .1) (m .result) (m .ensures) (c .if1 .left) in
+    (omega arith, l .inv .1 ∙ first-at (view (a .s .now)) (a .t) (a .q) (l .i) (c .before .before .before .loop-test .taken) ∙ rw e)
 
 returns-2 : tie.Need-returns-2 Inv-loop μ-loop
 unfolding limits
@@ -64,7 +72,7 @@ first-block-spec =
     μ-loop
     loop-holds
     limit-requires
-    blocks-requires
+    blocked-for-requires
     returns
     add-i
     loop-less

@@ -1,6 +1,6 @@
 -- The permit time that has to leave the hour before a limit permits again. Assumes nothing.
 use mathlib.Core.Path.{_≡_, refl, sym, _∙_}
-use mathlib.Core.Bool.{Bool, true, false, _&&_}
+use mathlib.Core.Bool.{Bool, true, false}
 use mathlib.Core.List.{List, [], _∷_}
 use Prim.Native.Nat.{ℕ, zero, suc, _+_, _-_, _≤_, _<_}
 use native.Mathlib.Omega.{arith}
@@ -8,19 +8,11 @@ use native.Mathlib.Numerals.{add-one}
 use lib.Dec.{leb, ltb}
 use lib.ListN.{length, getD, drop, length-drop}
 use borrow.Author.Tests.{leb-true, leb-false, le-leb, ltb-true, lt-ltb, le-ltb}
-use Rattle.rules.specs.Tables.{inHour, fromNewest, ascending}
-use Rattle.rules.proofs.Checks.{and-left, and-right}
-use Rattle.rules.proofs.Newest.{Rising, rising-le, rising-more, within-true, all-in}
-use Rattle.rules.proofs.Hour.{few, rolling-hour}
-use Rattle.reasons.specs.Meaning.{Leaves}
-
--- times in order rise
-pub ascending-rises : (lo hi : ℕ) (l : List ℕ) → lo ≤ hi → ascending lo hi l ≡ true → Rising lo l hi
-unfolding ascending
-ascending-rises lo hi [] h e = h
-ascending-rises lo hi (x ∷ l) h e =
-    let rest = and-right (leb lo x) (leb x hi && ascending x hi l) e in
-    (leb-true lo x (and-left (leb lo x) _ e), ascending-rises x hi l (leb-true x hi (and-left (leb x hi) _ rest)) (and-right (leb x hi) _ rest))
+use Rattle.rules.specs.Tables.{inHour, fromNewest}
+use Rattle.rules.specs.Leaves.{Leaves}
+use Rattle.rules.specs.Rules.{State, Limit, blocks}
+use Rattle.rules.proofs.Newest.{Rising, rising-le, rising-more, within-true, few, all-in, blocks-full}
+use Rattle.rules.proofs.Hour.{rolling-hour}
 
 -- of a list that rises, what is after place i rises from there
 rises-from : (a t i : ℕ) (l : List ℕ) → Rising a l t → i < length l → Rising (getD l i 0) (drop (suc i) l) t
@@ -81,3 +73,7 @@ module _ (L t a : ℕ) (l : List ℕ) (up : Rising a l t) (some : 0 < L) (full :
     from = from-then;
     exactly = then-exactly;
   }
+
+-- of a limit that blocks
+pub full-leaves : (w : State) (t : ℕ) (r : Limit) (a : ℕ) → Rising a (w .lists (r .kind)) t → blocks w t r ≡ true → Leaves (w .lists (r .kind)) (r .most) t
+full-leaves w t r a up e = let f = blocks-full w t r e in leaves-hour (r .most) t a (w .lists (r .kind)) up (f .above) (f .over)
