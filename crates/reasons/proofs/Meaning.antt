@@ -3,18 +3,20 @@ use mathlib.Core.Path.{_≡_, refl, sym, ap, _∙_}
 use mathlib.Core.Bool.{Bool, true, false, cond}
 use mathlib.Core.List.{List}
 use mathlib.Core.Logic.{_⊎_, inl, inr}
-use Prim.Native.Nat.{ℕ, suc, _+_, _-_, _<_}
+use Prim.Native.Nat.{ℕ, suc, _+_, _-_, _≤_, _<_}
+use native.Mathlib.Omega.{arith}
 use native.Mathlib.Numerals.{add-one}
-use lib.Dec.{lit≤, eqb}
+use lib.Dec.{lit≤, ltb, eqb}
 use lib.ListN.{getD, List·getD-map}
 use Rattle.rules.specs.declared.Answer.{Answer}
 use Rattle.rules.specs.Calls.{timed, ask, answer}
-use Rattle.rules.specs.Tables.{Kind, attach}
+use Rattle.rules.specs.Tables.{highestTime, Kind, attach}
 use Rattle.rules.specs.Rules.{State, Limit, limit, limits, blocks, refusal, ruling}
-use Rattle.rules.proofs.Checks.{on-time}
+use Rattle.rules.proofs.Checks.{in-range, on-time, fits, passes}
 use Rattle.rules.specs.Leaves.{Leaves}
 use Rattle.rules.proofs.Newest.{Rising, rising-more, ascending-rises}
 use Rattle.rules.proofs.Leaving.{full-leaves}
+use Rattle.rules.proofs.Again.{blocks-until}
 use Rattle.buffer.specs.Layout.{factsOf, view}
 use Rattle.buffer.specs.Good.{good}
 use Rattle.buffer.proofs.Goodness.{valid-view}
@@ -36,6 +38,10 @@ module _ (w : State) (t q : ℕ) (z : refusal (w .facts) (timed t (ask q)) ≡ 0
   own : (n : ℕ) (b : Bool) {m : ℕ} → m ≡ cond b n 0 → (m ≡ n) ⊎ (m ≡ 0)
   own n true e = inl e
   own n false e = inr e
+
+  -- at a later time no check refuses it either
+  later : (u : ℕ) → t ≤ u → u ≤ highestTime → refusal (w .facts) (timed u (ask q)) ≡ 0
+  later u h k = let f = w .facts in let o = on-time f t (ask q) z in passes f u (ask q) (in-range f t (ask q) z) (omega (arith, o, h)) k (fits f t (ask q) z)
 
   module _ (i : ℕ) (h : i < 7) (e : against w t q (limitAt (w .facts) q i .number) ≡ true) where
     r : Limit
@@ -60,6 +66,11 @@ module _ (w : State) (t q : ℕ) (z : refusal (w .facts) (timed t (ask q)) ≡ 0
     unfolding r
     alone-then = rw time-at (row-second w t q z i h stands)
 
+    alone-then-until : (u : ℕ) → t ≤ u → u ≤ highestTime → against w u q (r .number) ≡ ltb u (t + ruling (alone (r .number) w) (timed t (ask q)) .second)
+    unfolding r
+    alone-then-until u h′ k =
+        rw (row-second w t q z i h stands) (row-alone w u q (later u h′ k) i h ∙ blocks-until w a t u up h′ r stands)
+
   gate-then : (i : ℕ) → i < 7 → ruling w (timed t (ask q)) .number ≡ limitAt (w .facts) q i .number → ruling w (timed t (ask q)) .second ≡ getD (times w t q) (i + 1) 0 + 3600 - t
   unfolding r
   gate-then i h e = let f = gate-second w t q z i h e in rw (time-at i h (row-alone w t q z i h ∙ f .0)) (f .1)
@@ -76,6 +87,7 @@ module _ (w : State) (t q : ℕ) (z : refusal (w .facts) (timed t (ask q)) ≡ 0
     leaves = λ i h e. (time-at i h e, leaves-then i h e);
     alone-seconds = alone-then;
     gates-seconds = gate-then;
+    alone-until = alone-then-until;
   })
 
 -- ---- On a buffer

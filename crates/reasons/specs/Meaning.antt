@@ -2,11 +2,12 @@
 use mathlib.Core.Path.{_≡_}
 use mathlib.Core.Bool.{true}
 use mathlib.Core.Logic.{_⊎_}
-use Prim.Native.Nat.{ℕ, _+_, _-_, _<_}
+use Prim.Native.Nat.{ℕ, _+_, _-_, _≤_, _<_}
+use lib.Dec.{ltb}
 use lib.ListN.{getD}
 use lib.Count.{ones, trailingZeros}
 use Rattle.rules.specs.Calls.{timed, ask}
-use Rattle.rules.specs.Tables.{fromNewest}
+use Rattle.rules.specs.Tables.{highestTime, fromNewest}
 use Rattle.rules.specs.Leaves.{Leaves}
 use Rattle.rules.specs.Rules.{State, ruling}
 use Rattle.request.specs.Request.{limitAt}
@@ -32,3 +33,6 @@ pub record Means (w : State) (t q : ℕ) (r : Why) : Type 0 where
   pub alone-seconds : (i : ℕ) → i < 7 → against w t q (limitAt (w .facts) q i .number) ≡ true
       → ruling (alone (limitAt (w .facts) q i .number) w) (timed t (ask q)) .second ≡ getD (r .times) (i + 1) 0 + 3600 - t
   pub gates-seconds : (i : ℕ) → i < 7 → r .first ≡ limitAt (w .facts) q i .number → ruling w (timed t (ask q)) .second ≡ getD (r .times) (i + 1) 0 + 3600 - t
+  -- and taken alone it blocks, asked later with nothing in between, just until those seconds are over
+  pub alone-until : (i : ℕ) → i < 7 → against w t q (limitAt (w .facts) q i .number) ≡ true → (u : ℕ) → t ≤ u → u ≤ highestTime
+      → against w u q (limitAt (w .facts) q i .number) ≡ ltb u (t + ruling (alone (limitAt (w .facts) q i .number) w) (timed t (ask q)) .second)

@@ -88,6 +88,14 @@ module _ (w : State) (a t u : ℕ) (up : (k : Kind) → Rising a (w .lists k) t)
       go false x = refl
       go true x = absurd (false≢true (sym e ∙ before x))
 
+  -- so one that blocks at t blocks at u just when its seconds are not over
+  pub blocks-until : (r : Limit) → blocks w t r ≡ true → blocks w u r ≡ ltb u (t + freeIn t (r .most) (w .lists (r .kind)))
+  blocks-until r e = go (ltb u (t + freeIn t (r .most) (w .lists (r .kind)))) refl
+    where
+      go : (b : Bool) → ltb u (t + freeIn t (r .most) (w .lists (r .kind))) ≡ b → blocks w u r ≡ b
+      go true x = still r e (ltb-true u _ x)
+      go false x = over r e (ltb-false u _ x)
+
   first-still : (rs : List Limit) → firstBlock w t rs .number ≢ 0 → u < t + firstBlock w t rs .second
       → firstBlock w u rs ≡ answer (firstBlock w t rs .number) (t + firstBlock w t rs .second - u)
   first-still [] h k = absurd (h refl)
