@@ -1,4 +1,4 @@
-//! What request 4 spares an uploader. The same made work, thirty days of it on each of several openings, is asked of the linked library by
+//! What request 4 spares an uploader, and where it spares nothing. The same made work, thirty days of it on each of several openings, is asked of the linked library by
 //! one that knows only that it was blocked, and polls, and by one that waits as many seconds as it was told. What the network answers is
 //! drawn by the count of permits, so that it does not hang on when they came. Of the waiting one it is checked that
 //! - from one permit to the next no rule blocks it twice,
@@ -21,6 +21,9 @@ use std::array::from_fn;
 use std::process::exit;
 
 const OPENINGS: u32 = 8;
+/// Openings with limits of 150 to 255. They are counted apart: there a permit is seldom far off, and to wait as told spares nothing beside
+/// a slow poll.
+const WIDE_OPENINGS: u32 = 4;
 const DAYS: u32 = 30;
 const DAY: u32 = 86_400;
 const HOUR: u32 = 3_600;
@@ -103,10 +106,15 @@ struct Made {
 }
 
 impl Made {
-    /// By turns low limits, with back-offs, and higher ones, which would seldom be reached with them. By turns of two, nobody resets.
-    fn new(random: &mut Random, number: u32) -> Result<Made, gate::Verdict> {
+    /// By turns low limits, with back-offs, and higher ones, which would seldom be reached with them; or wide ones, with and without. By
+    /// turns of two, nobody resets.
+    fn new(random: &mut Random, number: u32, wide: bool) -> Result<Made, gate::Verdict> {
         let (nfm, resets) = (number & 1 == 0, number & 2 == 0);
-        let (few, more) = if nfm { ([1, 2, 3, 5], [4, 6, 9, 12]) } else { ([4, 8, 12, 20], [24, 30, 40, 60]) };
+        let (few, more) = match (wide, nfm) {
+            (true, _) => ([150, 180, 220, 255], [150, 180, 220, 255]),
+            (false, true) => ([1, 2, 3, 5], [4, 6, 9, 12]),
+            (false, false) => ([4, 8, 12, 20], [24, 30, 40, 60]),
+        };
         let [n1, a1, s1, f4] = [few, more, more, more].map(|from| random.pick(&from));
         let mut parameters = [0; 32];
         parameters[..6].copy_from_slice(&[n1, 0, random.pick(&few), random.pick(&few), random.pick(&few), f4]);
@@ -376,15 +384,13 @@ fn table(counts: &[Count]) {
     }
 }
 
-fn main() {
-    let seed = seed();
-    println!("uploader: seed {seed}, {OPENINGS} openings of {DAYS} days");
-    let mut random = Random(seed.max(1));
+/// All three uploaders on so many openings; gives back their counts, and how many permits were compared.
+fn group(seed: u64, random: &mut Random, openings: u32, wide: bool) -> ([Count; 3], usize) {
     let mut counts = MANNERS.map(|_| Count::default());
     let mut compared = 0;
-    for number in 0..OPENINGS {
-        let name = format!("seed {seed}, opening {number}");
-        let made = Made::new(&mut random, number).unwrap_or_else(|verdict| fail(format!("{name}: not opened: {verdict:?}")));
+    for number in 0..openings {
+        let name = format!("seed {seed}, {}opening {number}", if wide { "wide " } else { "" });
+        let made = Made::new(random, number, wide).unwrap_or_else(|verdict| fail(format!("{name}: not opened: {verdict:?}")));
         let [often, seldom, waited]: [Permits; 3] = from_fn(|i| {
             let (how, manner) = MANNERS[i];
             let mut run = Run::new(format!("{name}, {how}"), manner, &made, &mut counts[i]);
@@ -393,13 +399,30 @@ fn main() {
         });
         compared += never_behind(&name, &made, &often, &waited) + never_behind(&name, &made, &seldom, &waited);
     }
-    table(&counts);
+    (counts, compared)
+}
+
+/// The table of a group, and of the limits alone how often each uploader was blocked.
+fn tell(what: &str, counts: &[Count; 3]) {
+    println!("uploader: {what}");
+    table(counts);
+    let [often, seldom, waiting] = counts.each_ref().map(|count| count.blocks[1..].iter().sum::<u64>());
+    println!("uploader: blocked by a limit: {often} times by polling every 10 s, {seldom} every 60 s, {waiting} by waiting as told");
+}
+
+fn main() {
+    let seed = seed();
+    println!("uploader: seed {seed}");
+    let mut random = Random(seed.max(1));
+    let (counts, mut compared) = group(seed, &mut random, OPENINGS, false);
+    tell(&format!("{OPENINGS} openings of {DAYS} days, limits of 1 to 60"), &counts);
     for (rule, (number, name)) in RULES.into_iter().enumerate() {
         if counts.iter().any(|count| count.blocks[rule] == 0) {
             fail(format!("seed {seed}: {number}, by {name}, was not met"));
         }
     }
-    let [often, seldom, waiting] = counts.map(|count| count.blocks[1..].iter().sum::<u64>());
-    println!("uploader: blocked by a limit: {often} times by polling every 10 s, {seldom} every 60 s, {waiting} by waiting as told");
-    println!("uploader: waiting as told, it was never blocked twice by the same rule, and of {compared} permits none came later");
+    let (counts, more) = group(seed, &mut random, WIDE_OPENINGS, true);
+    tell(&format!("{WIDE_OPENINGS} openings of {DAYS} days, limits of 150 to 255"), &counts);
+    compared += more;
+    println!("uploader: waiting as told, it was never blocked twice by the same rule; of {compared} permits that no reset disturbs none came later");
 }

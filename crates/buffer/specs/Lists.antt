@@ -32,6 +32,6 @@ permitted b k t =
     let n = getD b (LENGTHS + k) 0 in
     set (paste b (LISTS + 255 * k) (appended (part b (LISTS + 255 * k) 255) n t)) (LENGTHS + k) (min (n + 1) 255)
 
--- the seconds until fewer than L of a list are in the hour of t, and 0 where fewer are
+-- from t on, the seconds until fewer than L of a list are in the hour, and 0 where fewer are at t
 unfoldable pub fullFor : ℕ → ℕ → List ℕ → ℕ
 fullFor t L l = cond (leb L (inHour t l)) (freeIn t L l) 0

@@ -1,4 +1,4 @@
--- Document 01's figures for the classroom, with the waits of request 3: how the buffer is opened, what is called, and what must be seen, over
+-- Document 01's figures for the classroom, with the waits of request 3 and the seconds of request 4: how the buffer is opened, what is called, and what must be seen, over
 -- the calls' own definitions on the 1,330 places and over the record. Assumes nothing.
 use Prim.Native.Nat.{ℕ}
 use mathlib.Core.List.{List, [], _∷_, _++_}

@@ -1,4 +1,5 @@
--- What is meant by what is said: each sentence of request 1 of the customer, and what request 4 makes of its times, of a request that no check refuses. Assumes nothing.
+-- What is meant by what is said: each sentence of request 1 of the customer, and what request 4 makes of its times, of a request
+-- that no check refuses. Assumes nothing.
 use mathlib.Core.Path.{_≡_}
 use mathlib.Core.Bool.{true}
 use mathlib.Core.Logic.{_⊎_}

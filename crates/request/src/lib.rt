@@ -117,8 +117,8 @@ pub fn limit(s: &[u32], q: u32, i: usize) -> Row
     }
 }
 
-// The seconds until the limit of a row, by itself, would permit at t; 0 where it does not block: it applies, it is not 0, and as many
-// permits of its list are in the hour.
+// From t on, the seconds until the limit of a row would permit by itself; 0 where it does not block. It blocks where it applies, is not 0,
+// and as many permits of its list are in the hour.
 pub fn blocked_for(s: &[u32], row: Row, t: u32) -> u32
     requires { ⌜ Listed (now s) (row .list) ⌝ }
     requires { ⌜ ascending 0 t (listOf (now s) (row .list)) ≡ true ⌝ }
