@@ -2,11 +2,14 @@
 use rules::Answer;
 ghost use mathlib.Core.Path.{_≡_};
 ghost use mathlib.Core.Bool.{true};
-ghost use lib.ListN.{length};
+ghost use Prim.Native.Nat.{_≤_, _<_};
+ghost use lib.ListN.{length, take};
 ghost use Rattle.mixing.specs.Mixing.{mixed};
 ghost use Rattle.rules.specs.Calls.{timed, ask, tick};
+ghost use Rattle.rules.specs.Tables.{ascending};
 ghost use Rattle.buffer.specs.Places.{SIZE};
 ghost use Rattle.buffer.specs.Good.{good};
+ghost use Rattle.buffer.specs.Lists.{fullFor};
 ghost use Rattle.clock.specs.Call.{Says};
 
 // A number mixed.
@@ -23,6 +26,17 @@ pub extern "C" fn timing_is_good(s: &[u32]) -> bool
     ensures { λ r. ⌜ r ≡ good (now (s .entry)) ⌝ }
 {
     buffer::is_good(s)
+}
+
+// For how long a list is full.
+#[no_mangle]
+pub extern "C" fn timing_full_for(p: &[u32], n: u32, t: u32, most: u32) -> u32
+    requires { ⌜ n ≤ length (now p) ⌝ }
+    requires { ⌜ ascending 0 t (take n (now p)) ≡ true ⌝ }
+    requires { ⌜ 0 < most ⌝ }
+    ensures { λ r. ⌜ r ≡ fullFor t most (take n (now (p .entry))) ⌝ }
+{
+    buffer::lists::full_for(p, n, t, most)
 }
 
 // The clock call.
