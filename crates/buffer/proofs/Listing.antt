@@ -1,7 +1,6 @@
 -- The laws of one list's places: what a shift leaves, and what `appended` is with room and without.
 -- Assumes nothing.
 use mathlib.Core.Path.{_≡_, refl, sym, ap, _∙_, subst}
-use mathlib.Core.Bool.{Bool, true, false, cond}
 use mathlib.Core.List.{List, [], _∷_, _++_, append-nil}
 use Prim.Native.Nat.{ℕ, zero, suc, _+_, _-_, _*_, _≤_, _<_, min}
 use native.Mathlib.Nat.{not-suc-le-zero, le-of-suc-le-suc, le-of-eq}
@@ -9,17 +8,13 @@ use native.Mathlib.Numerals.{add-one}
 use native.Mathlib.Omega.{arith}
 use lib.Dec.{lit≤}
 use lib.ListN.{length, take, drop, getD, set, replicate, length-append, length-drop, length-replicate}
-use lib.Seq.{drop-append-seam, take-all, drop-append-le, set-split, drop-drop, append-snoc, slice, slice-cons, slice-empty, length-take-le, getD-take}
-use borrow.Author.Tests.{le-leb, lt-leb, lt-ltb, le-ltb}
-use Rattle.rules.specs.Tables.{within, inHour, fromNewest, ascending}
+use lib.Seq.{drop-append-seam, take-all, drop-append-le, set-split, drop-drop, append-snoc, length-take-le}
 use Rattle.rules.specs.Rules.{Facts, newest}
-use Rattle.rules.proofs.Newest.{ascending-rises, within-past, within-late, few}
-use Rattle.rules.proofs.Leaving.{leaves-hour}
 use Rattle.buffer.specs.Segments.{pad, part}
 use Rattle.buffer.specs.Layout.{spread, row}
 use Rattle.buffer.specs.Places.{LENGTHS, LISTS}
 use Rattle.buffer.specs.Good.{Shape}
-use Rattle.buffer.specs.Lists.{Holds, Listed, appended, permitted, fullFor}
+use Rattle.buffer.specs.Lists.{Holds, Listed, appended, permitted}
 use Rattle.buffer.proofs.Segments.{length-part}
 use Rattle.buffer.proofs.Laying.{Shaped, length-pad, take-pad, places-at, count-at, set-row, shaped-row}
 use Rattle.buffer.proofs.Goodness.{zeros-replicate}
@@ -71,30 +66,6 @@ appended-room p n t h g =
     let e2 : 255 - (n + 1) ≡ 254 - n = omega arith in
     rw (set-split, r, l1, e1, l1, e2) (append-snoc (take n p) t (replicate (254 - n) 0))
 
--- one element of the range that is counted
-pub hour-step : (a : List ℕ) (i n t : ℕ) → i < n → n ≤ length a → inHour t (slice i n a) ≡ cond (within t (getD a i 0)) (suc (inHour t (slice (i + 1) n a))) (inHour t (slice (i + 1) n a))
-hour-step a i n t h k = rw (slice-cons i n a 0, add-one)
-
--- a turn of the count, by whether the element is in the hour
-pub hour-turn : (a : List ℕ) (i n t c k s : ℕ) (b : Bool) → i < n → n ≤ length a → within t (getD a i 0) ≡ b → k ≡ cond b (suc c) c → c + inHour t (slice i n a) ≡ s → k + inHour t (slice (i + 1) n a) ≡ s
-hour-turn a i n t c k s true h l e f g = let q = rw e at (hour-step a i n t h l) in omega arith
-hour-turn a i n t c k s false h l e f g = let q = rw e at (hour-step a i n t h l) in omega arith
-
-pub hour-none : (a : List ℕ) (n t : ℕ) → inHour t (slice n n a) ≡ 0
-hour-none a n t = rw slice-empty
-
-pub hour-hit : (p t : ℕ) → p ≤ t → t - p < 3600 → within t p ≡ true
-unfolding within
-hour-hit p t h k = rw (le-leb p t h, lt-ltb t (p + 3600) (omega arith))
-
-pub hour-old : (p t : ℕ) → p ≤ t → 3600 ≤ t - p → within t p ≡ false
-unfolding within
-hour-old p t h k = rw (le-leb p t h, le-ltb t (p + 3600) (omega arith))
-
-pub hour-later : (p t : ℕ) → t < p → within t p ≡ false
-unfolding within
-hour-later p t h = rw (lt-leb p t h)
-
 -- what holds of a list of at most 255 that is padded
 pub pad-holds : (l : List ℕ) → length l ≤ 255 → Holds (pad 255 l) (length l)
 unfolding pad
@@ -143,28 +114,3 @@ module _ (f : Facts) (rs : List (List ℕ)) (s : Shaped f rs) (k : ℕ) (five : 
 -- as many times stand on a list as its length says
 pub listed-length : (b : List ℕ) (k : ℕ) → Listed b k → length (row b k) ≡ getD b (LENGTHS + k) 0
 listed-length b k h = let u = h .holds .used in let l = h .long in let f = h .five in length-part b (LISTS + 255 * k) (getD b (LENGTHS + k) 0) (omega arith)
-
--- of the first n places, which rise to t: where L or more are in the hour, the time L places from the newest is among them, and in the hour
-pub record Full (p : List ℕ) (n t L : ℕ) : Type 0 where
-  pub few : L ≤ n
-  pub past : getD p (n - L) 0 ≤ t
-  pub late : t < getD p (n - L) 0 + 3600
-  pub says : fullFor t L (take n p) ≡ getD p (n - L) 0 + 3600 - t
-
-pub full : (p : List ℕ) (n t L : ℕ) → n ≤ length p → ascending 0 t (take n p) ≡ true → 0 < L → L ≤ inHour t (take n p) → Full p n t L
-unfolding fullFor
-full p n t L long up some h =
-    let used = length-take-le n p long in
-    let enough : L ≤ n = omega (arith, h, few t (take n p), used) in
-    let at : fromNewest L (take n p) ≡ getD p (n - L) 0 = rw used (getD-take n p (n - L) 0 (omega arith)) in
-    let in-hour : within t (getD p (n - L) 0) ≡ true = rw at at (leaves-hour L t 0 (take n p) (ascending-rises 0 t (take n p) (omega arith) up) some h .in-hour) in
-    record {
-      few = enough;
-      past = within-past t (getD p (n - L) 0) in-hour;
-      late = within-late t (getD p (n - L) 0) in-hour;
-      says = rw (le-leb L (inHour t (take n p)) h, at);
-    }
-
-pub free : (t L : ℕ) (l : List ℕ) → inHour t l < L → fullFor t L l ≡ 0
-unfolding fullFor
-free t L l h = rw (lt-leb L (inHour t l) h)

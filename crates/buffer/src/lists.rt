@@ -5,7 +5,7 @@ ghost use mathlib.Core.Path.{_≡_};
 ghost use mathlib.Core.Bool.{true};
 ghost use Prim.Native.Nat.{_+_, _≤_, _<_, min};
 ghost use lib.ListN.{length, take};
-ghost use Rattle.rules.specs.Tables.{inHour, ascending};
+ghost use Rattle.rules.specs.Tables.{ascending};
 ghost use Rattle.buffer.specs.Layout.{row};
 ghost use Rattle.buffer.specs.Lists.{Holds, Listed, appended, permitted, fullFor};
 
@@ -41,38 +41,20 @@ pub fn permit_on(s: &mut [u32], k: usize, t: u32)
     s[j] = m;
 }
 
-// How many of the first n times are in the hour of t.
-fn in_hour(p: &[u32], n: u32, t: u32) -> u32
-    requires { ⌜ n ≤ length (now p) ⌝ }
-    ensures { λ r. ⌜ r ≡ inHour t (take n (now (p .entry))) ⌝ }
-{
-    let m = n as usize;
-    let mut c: u32 = 0;
-    let mut i: usize = 0;
-    while i < m {
-        let x = p[i];
-        if x <= t {
-            if t - x < 3600 {
-                c += 1;
-            }
-        }
-        i += 1;
-    }
-    c
-}
-
-// The seconds until fewer than `most` of the first n times, which rise to t, are in the hour; 0 where fewer are.
+// The seconds until fewer than `most` of the first n times, which rise to t, are in the hour; 0 where fewer are. Only the time `most` places
+// from the newest is looked at.
 pub fn full_for(p: &[u32], n: u32, t: u32, most: u32) -> u32
     requires { ⌜ n ≤ length (now p) ⌝ }
     requires { ⌜ ascending 0 t (take n (now p)) ≡ true ⌝ }
     requires { ⌜ 0 < most ⌝ }
     ensures { λ r. ⌜ r ≡ fullFor t most (take n (now (p .entry))) ⌝ }
 {
-    if in_hour(p, n, t) < most {
+    if n < most {
         return 0;
     }
-    let i = (n - most) as usize;
-    3600 - (t - p[i])
+    let i = n as usize - most as usize;
+    let age = t - p[i];
+    if age < 3600 { 3600 - age } else { 0 }
 }
 
 // The same of list k.

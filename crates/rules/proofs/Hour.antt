@@ -1,6 +1,6 @@
 -- What the count in the hour means without counting: a limit is full just when the permit so many places from the newest is less than
 -- 3,600 seconds old. Assumes nothing.
-use Prim.Native.Nat.{ℕ, suc, _+_, _-_, _<_}
+use Prim.Native.Nat.{ℕ, zero, suc, _+_, _-_, _≤_, _<_}
 use mathlib.Core.Path.{_≡_, refl, sym, _∙_}
 use mathlib.Core.Bool.{Bool, true, false, cond, _&&_, false≢true}
 use mathlib.Core.List.{List, [], _∷_}
@@ -40,3 +40,19 @@ rolling-hour L t a (p ∷ l) g h = go (leb L (length l)) refl (rolling-hour L t 
         let z : suc (length l) - L ≡ suc (length l - L) = omega arith in
         rw (z, le-leb L (suc (length l)) (omega arith)) (sym (enough L t p l (h .1) n) ∙ ih)
     go false e ih = last (leb L (suc (length l))) refl (leb-false L (length l) e)
+
+-- no time of a list that rises to t is after t
+pub rising-at : (a t i : ℕ) (l : List ℕ) → Rising a l t → i < length l → getD l i 0 ≤ t
+rising-at a t i [] h g = absurd (omega arith)
+rising-at a t zero (p ∷ l) h g = rising-le p l t (h .1)
+rising-at a t (suc i) (p ∷ l) h g = rising-at p t i l (h .1) (omega arith)
+
+-- so one time tells: L or more of a list that rises to t are in the hour of t just when the time L places from the newest is there and in
+-- the hour
+pub one-time : (L t a : ℕ) (l : List ℕ) → 0 < L → Rising a l t → leb L (inHour t l) ≡ (leb L (length l) && within t (fromNewest L l))
+unfolding within
+one-time L t a l g h = rolling-hour L t a l g h ∙ go (leb L (length l)) refl
+  where
+    go : (b : Bool) → leb L (length l) ≡ b → (b && ltb t (fromNewest L l + 3600)) ≡ (b && (leb (fromNewest L l) t && ltb t (fromNewest L l + 3600)))
+    go true e = let n = leb-true L (length l) e in rw (le-leb (fromNewest L l) t (rising-at a t (length l - L) l h (omega arith)))
+    go false e = refl

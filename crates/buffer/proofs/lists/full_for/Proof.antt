@@ -1,71 +1,106 @@
--- `buffer::lists::full_for` meets its contract. Assumes nothing.
-use mathlib.Core.Path.{sym}
+-- `buffer::lists::full_for` meets its contract: it looks at one time of the list, which by `one-time` tells enough. Assumes nothing.
+use mathlib.Core.Path.{_≡_, refl, sym, ap, _∙_}
+use mathlib.Core.Bool.{Bool, true, false, cond, _&&_}
+use mathlib.Core.List.{List}
+use Prim.Native.Nat.{ℕ, _+_, _-_, _≤_, _<_}
 use native.Mathlib.Omega.{arith}
-use lib.ListN.{take}
-use Rattle.buffer.proofs.Listing.{full, free}
 use borrow.Author.Needs.{needs}
+use borrow.Author.Tests.{le-leb, lt-leb, ltb-false}
+use lib.Dec.{leb, ltb}
+use lib.ListN.{length, take, getD}
+use lib.Seq.{length-take-le, getD-take}
+use Rattle.rules.specs.Tables.{within, fromNewest, freeIn, ascending}
+use Rattle.rules.proofs.Newest.{Rising, ascending-rises}
+use Rattle.rules.proofs.Hour.{rising-at, one-time}
+use Rattle.buffer.specs.Lists.{fullFor}
 use Rattle.buffer.proofs.lists.full_for.Statement.{statement}
 use Rattle.buffer.proofs.lists.full_for.Tie as tie
 
-in-hour-requires : tie.Need-in-hour-requires
-in-hour-requires c κs = search needs
+-- what the time L places from the newest of the first n of p tells where it is there. The difference is 0 once it has left the hour.
+record Told (p : List ℕ) (n t L : ℕ) : Type 0 where
+  past : getD p (n - L) 0 ≤ t
+  says : fullFor t L (take n p) ≡ getD p (n - L) 0 + 3600 - t
+
+module _ (p : List ℕ) (n t L : ℕ) (long : n ≤ length p) (up : ascending 0 t (take n p) ≡ true) (some : 0 < L) where
+  used : length (take n p) ≡ n
+  used = length-take-le n p long
+
+  rises : Rising 0 (take n p) t
+  rises = ascending-rises 0 t (take n p) (omega arith) up
+
+  looked : fullFor t L (take n p) ≡ cond (leb L (length (take n p)) && within t (fromNewest L (take n p))) (freeIn t L (take n p)) 0
+  unfolding fullFor
+  looked = ap (λ (b : Bool). cond b (freeIn t L (take n p)) 0) (one-time L t 0 (take n p) some rises)
+
+  -- it is not there
+  short : n < L → fullFor t L (take n p) ≡ 0
+  short h = looked ∙ rw (lt-leb L (length (take n p)) (omega (arith, used)))
+
+  told : L ≤ n → Told p n t L
+  unfolding within
+  told h = record { past = before; says = looked ∙ rw (le-leb L (length (take n p)) (omega (arith, used)), at, le-leb x t before) (go (ltb t (x + 3600)) refl) }
+    where
+      x : ℕ
+      x = getD p (n - L) 0
+
+      at : fromNewest L (take n p) ≡ x
+      at = rw used (getD-take n p (n - L) 0 (omega arith))
+
+      before : x ≤ t
+      before = rw at at (rising-at 0 t (length (take n p) - L) (take n p) rises (omega (arith, used)))
+
+      go : (b : Bool) → ltb t (x + 3600) ≡ b → cond b (x + 3600 - t) 0 ≡ x + 3600 - t
+      go true e = refl
+      go false e = let k = ltb-false t (x + 3600) e in omega arith
 
 returns : tie.Need-returns
 returns c =
-    let a = c .before .before .before .args in
-    sym (free (a .t) (a .most) (take (a .n) (a .p .now)) (omega (arith, c .before .in-hour .ensures, c .if1 .taken)))
+    let x = c .before in
+    let a = x .args in
+    sym (short (a .p .now) (a .n) (a .t) (a .most) (x .pre .0) (x .pre .1 .0) (x .pre .1 .1) (omega (arith, c .if1 .taken)))
 
 sub-i : tie.Need-sub-i
-sub-i c =
-    let x = c .before .before .before in
+sub-i c = search needs
+
+mul-age : tie.Need-mul-age
+mul-age c = search needs
+
+shared-slice-read-age : tie.Need-shared-slice-read-age
+shared-slice-read-age c = let x = c .before .before in omega (arith, x .pre .0, x .pre .1 .1)
+
+sub-age : tie.Need-sub-age
+sub-age c =
+    let x = c .before .before in
     let a = x .args in
-    let h = full (a .p .now) (a .n) (a .t) (a .most) (x .pre .0) (x .pre .1 .0) (x .pre .1 .1) (omega (arith, c .before .in-hour .ensures, c .if1 .left)) in
-    omega (arith, h .few)
-
-cast-i : tie.Need-cast-i
-cast-i c = search needs
-
-mul-result : tie.Need-mul-result
-mul-result c = search needs
-
-shared-slice-read-result : tie.Need-shared-slice-read-result
-shared-slice-read-result c =
-    let x = c .before .before .before .before in
-    let a = x .args in
-    let h = full (a .p .now) (a .n) (a .t) (a .most) (x .pre .0) (x .pre .1 .0) (x .pre .1 .1) (omega (arith, c .before .before .in-hour .ensures, c .before .if1 .left)) in
-    omega (arith, h .few, x .pre .0, x .pre .1 .1)
-
-sub-result : tie.Need-sub-result
-sub-result c =
-    let x = c .before .before .before .before in
-    let a = x .args in
-    let h = full (a .p .now) (a .n) (a .t) (a .most) (x .pre .0) (x .pre .1 .0) (x .pre .1 .1) (omega (arith, c .before .before .in-hour .ensures, c .before .if1 .left)) in
+    let h = told (a .p .now) (a .n) (a .t) (a .most) (x .pre .0) (x .pre .1 .0) (x .pre .1 .1) (omega (arith, c .before .if1 .left)) in
     omega (arith, h .past)
 
-sub-result-2 : tie.Need-sub-result-2
-sub-result-2 c =
-    let x = c .before .before .before .before in
-    let a = x .args in
-    let h = full (a .p .now) (a .n) (a .t) (a .most) (x .pre .0) (x .pre .1 .0) (x .pre .1 .1) (omega (arith, c .before .before .in-hour .ensures, c .before .if1 .left)) in
-    omega (arith, h .late)
+sub-result : tie.Need-sub-result
+sub-result c = search needs
 
 returns-2 : tie.Need-returns-2
 returns-2 c =
-    let x = c .before .before .before .before in
+    let x = c .before .before .before in
     let a = x .args in
-    let h = full (a .p .now) (a .n) (a .t) (a .most) (x .pre .0) (x .pre .1 .0) (x .pre .1 .1) (omega (arith, c .before .before .in-hour .ensures, c .before .if1 .left)) in
+    let h = told (a .p .now) (a .n) (a .t) (a .most) (x .pre .0) (x .pre .1 .0) (x .pre .1 .1) (omega (arith, c .before .before .if1 .left)) in
+    omega (arith, h .past, h .says)
+
+returns-3 : tie.Need-returns-3
+returns-3 c =
+    let x = c .before .before .before in
+    let a = x .args in
+    let h = told (a .p .now) (a .n) (a .t) (a .most) (x .pre .0) (x .pre .1 .0) (x .pre .1 .1) (omega (arith, c .before .before .if1 .left)) in
     omega (arith, h .past, h .says)
 
 pub full-for-spec : {M : Type 1} → statement M
 full-for-spec =
     tie.close
     (tie.spec
-    in-hour-requires
     returns
     sub-i
-    cast-i
-    mul-result
-    shared-slice-read-result
+    mul-age
+    shared-slice-read-age
+    sub-age
     sub-result
-    sub-result-2
-    returns-2)
+    returns-2
+    returns-3)
