@@ -1,5 +1,5 @@
 //! Times the clock call and a request, each as a checked call and as the inner one on a good buffer, alternating in one run; the minimum of
-//! 25 rounds of 20,000 calls each. The lists are full, all leak rates are 1, and each request is one that S1 blocks.
+//! 250 rounds of 20,000 calls each. The lists are full, all leak rates are 1, and each request is one that S1 blocks.
 use std::hint::black_box;
 use std::time::Instant;
 
@@ -39,7 +39,7 @@ fn main() {
     // S1 is 255, so the permit of 8,000 has to leave the hour.
     let (done, blocked) = ((0, 0), (18, 8_000 + 3_600 - 9_000));
     let mut least = [f64::MAX; 4];
-    for _ in 0..25 {
+    for _ in 0..250 {
         least[0] = least[0].min(round(done, |t| unsafe { timing_tick(s, n, t) }));
         least[1] = least[1].min(round(done, |t| unsafe { timing_tick_in(s, n, t) }));
         least[2] = least[2].min(round(blocked, |t| unsafe { timing_request(s, n, t, 3) }));

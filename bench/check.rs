@@ -1,4 +1,4 @@
-//! Times the check of one buffer beside the same scan in Rust, alternating in one run; the minimum of 25 rounds of 20,000 checks each.
+//! Times the check of one buffer beside the same scan in Rust, alternating in one run; the minimum of 250 rounds of 20,000 checks each.
 use std::hint::black_box;
 use std::time::Instant;
 
@@ -70,7 +70,7 @@ fn main() {
         }
         let b = black_box(&b[..]);
         let (mut ours, mut theirs) = (f64::MAX, f64::MAX);
-        for _ in 0..25 {
+        for _ in 0..250 {
             ours = ours.min(round(|| unsafe { timing_is_good(b.as_ptr(), b.len()) }));
             theirs = theirs.min(round(|| is_good(b)));
         }

@@ -1,5 +1,5 @@
 //! Times the hour check of a list of 255 times, and a request that it blocks, in an earlier version and in this one, alternating in one run; the
-//! minimum of 25 rounds of 20,000 calls each.
+//! minimum of 250 rounds of 20,000 calls each.
 use std::hint::black_box;
 use std::time::Instant;
 
@@ -33,7 +33,7 @@ fn round(expected: u32, mut call: impl FnMut() -> u32) -> f64 {
 
 fn turns(name: &str, expected: u32, mut then: impl FnMut() -> u32, mut now: impl FnMut() -> u32) {
     let (mut before, mut after) = (f64::MAX, f64::MAX);
-    for _ in 0..25 {
+    for _ in 0..250 {
         before = before.min(round(expected, &mut then));
         after = after.min(round(expected, &mut now));
     }
