@@ -16,48 +16,46 @@ use Rattle.buffer.specs.Lists.{fullFor}
 use Rattle.buffer.proofs.lists.full_for.Statement.{statement}
 use Rattle.buffer.proofs.lists.full_for.Tie as tie
 
--- what the time L places from the newest of the first n of p tells where it is there. The difference is 0 once it has left the hour.
-record Told (p : List ℕ) (n t L : ℕ) : Type 0 where
-  past : getD p (n - L) 0 ≤ t
-  says : fullFor t L (take n p) ≡ getD p (n - L) 0 + 3600 - t
-
-module _ (p : List ℕ) (n t L : ℕ) (long : n ≤ length p) (up : ascending 0 t (take n p) ≡ true) (some : 0 < L) where
+-- the first n of p, which rise to t
+module _ (p : List ℕ) (n t : ℕ) (long : n ≤ length p) (up : ascending 0 t (take n p) ≡ true) where
   used : length (take n p) ≡ n
   used = length-take-le n p long
 
   rises : Rising 0 (take n p) t
   rises = ascending-rises 0 t (take n p) (omega arith) up
 
-  looked : fullFor t L (take n p) ≡ cond (leb L (length (take n p)) && within t (fromNewest L (take n p))) (freeIn t L (take n p)) 0
-  unfolding fullFor
-  looked = ap (λ (b : Bool). cond b (freeIn t L (take n p)) 0) (one-time L t 0 (take n p) some rises)
+  past : (i : ℕ) → i < n → getD p i 0 ≤ t
+  past i h = rw (getD-take n p i 0 h) at (rising-at 0 t i (take n p) rises (omega (arith, used)))
 
-  -- it is not there
-  short : n < L → fullFor t L (take n p) ≡ 0
-  short h = looked ∙ rw (lt-leb L (length (take n p)) (omega (arith, used)))
+  module _ (L : ℕ) (some : 0 < L) where
+    looked : fullFor t L (take n p) ≡ cond (leb L (length (take n p)) && within t (fromNewest L (take n p))) (freeIn t L (take n p)) 0
+    unfolding fullFor
+    looked = ap (λ (b : Bool). cond b (freeIn t L (take n p)) 0) (one-time L t 0 (take n p) some rises)
 
-  told : L ≤ n → Told p n t L
-  unfolding within
-  told h = record { past = before; says = looked ∙ rw (le-leb L (length (take n p)) (omega (arith, used)), at, le-leb x t before) (go (ltb t (x + 3600)) refl) }
-    where
-      x : ℕ
-      x = getD p (n - L) 0
+    -- the time L places from the newest is not there
+    short : n < L → fullFor t L (take n p) ≡ 0
+    short h = looked ∙ rw (lt-leb L (length (take n p)) (omega (arith, used)))
 
-      at : fromNewest L (take n p) ≡ x
-      at = rw used (getD-take n p (n - L) 0 (omega arith))
+    -- it is there, x; the difference is 0 once it has left the hour
+    told : L ≤ n → fullFor t L (take n p) ≡ getD p (n - L) 0 + 3600 - t
+    unfolding within
+    told h = looked ∙ rw (le-leb L (length (take n p)) (omega (arith, used)), stands, le-leb x t (past (n - L) (omega arith))) (go (ltb t (x + 3600)) refl)
+      where
+        x : ℕ
+        x = getD p (n - L) 0
 
-      before : x ≤ t
-      before = rw at at (rising-at 0 t (length (take n p) - L) (take n p) rises (omega (arith, used)))
+        stands : fromNewest L (take n p) ≡ x
+        stands = rw used (getD-take n p (n - L) 0 (omega arith))
 
-      go : (b : Bool) → ltb t (x + 3600) ≡ b → cond b (x + 3600 - t) 0 ≡ x + 3600 - t
-      go true e = refl
-      go false e = let k = ltb-false t (x + 3600) e in omega arith
+        go : (b : Bool) → ltb t (x + 3600) ≡ b → cond b (x + 3600 - t) 0 ≡ x + 3600 - t
+        go true e = refl
+        go false e = let k = ltb-false t (x + 3600) e in omega arith
 
 returns : tie.Need-returns
 returns c =
     let x = c .before in
     let a = x .args in
-    sym (short (a .p .now) (a .n) (a .t) (a .most) (x .pre .0) (x .pre .1 .0) (x .pre .1 .1) (omega (arith, c .if1 .taken)))
+    sym (short (a .p .now) (a .n) (a .t) (x .pre .0) (x .pre .1 .0) (a .most) (x .pre .1 .1) (omega (arith, c .if1 .taken)))
 
 sub-i : tie.Need-sub-i
 sub-i c = search needs
@@ -72,8 +70,7 @@ sub-age : tie.Need-sub-age
 sub-age c =
     let x = c .before .before in
     let a = x .args in
-    let h = told (a .p .now) (a .n) (a .t) (a .most) (x .pre .0) (x .pre .1 .0) (x .pre .1 .1) (omega (arith, c .before .if1 .left)) in
-    omega (arith, h .past)
+    past (a .p .now) (a .n) (a .t) (x .pre .0) (x .pre .1 .0) _ (omega (arith, x .pre .1 .1, c .before .if1 .left))
 
 sub-result : tie.Need-sub-result
 sub-result c = search needs
@@ -82,15 +79,14 @@ returns-2 : tie.Need-returns-2
 returns-2 c =
     let x = c .before .before .before in
     let a = x .args in
-    let h = told (a .p .now) (a .n) (a .t) (a .most) (x .pre .0) (x .pre .1 .0) (x .pre .1 .1) (omega (arith, c .before .before .if1 .left)) in
-    omega (arith, h .past, h .says)
+    let h = past (a .p .now) (a .n) (a .t) (x .pre .0) (x .pre .1 .0) (a .n - a .most) (omega (arith, x .pre .1 .1, c .before .before .if1 .left)) in
+    omega (arith, h, told (a .p .now) (a .n) (a .t) (x .pre .0) (x .pre .1 .0) (a .most) (x .pre .1 .1) (omega (arith, c .before .before .if1 .left)))
 
 returns-3 : tie.Need-returns-3
 returns-3 c =
     let x = c .before .before .before in
     let a = x .args in
-    let h = told (a .p .now) (a .n) (a .t) (a .most) (x .pre .0) (x .pre .1 .0) (x .pre .1 .1) (omega (arith, c .before .before .if1 .left)) in
-    omega (arith, h .past, h .says)
+    omega (arith, told (a .p .now) (a .n) (a .t) (x .pre .0) (x .pre .1 .0) (a .most) (x .pre .1 .1) (omega (arith, c .before .before .if1 .left)))
 
 pub full-for-spec : {M : Type 1} → statement M
 full-for-spec =
