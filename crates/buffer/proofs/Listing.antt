@@ -7,11 +7,11 @@ use native.Mathlib.Nat.{not-suc-le-zero, le-of-suc-le-suc, le-of-eq}
 use native.Mathlib.Numerals.{add-one}
 use native.Mathlib.Omega.{arith}
 use lib.Dec.{lit≤}
-use lib.ListN.{length, take, drop, getD, set, replicate, length-append, length-drop, length-replicate}
-use lib.Seq.{drop-append-seam, take-all, drop-append-le, set-split, drop-drop, append-snoc, length-take-le}
+use lib.ListN.{length, take, drop, getD, set, replicate, length-append, length-drop}
+use lib.Seq.{take-all, drop-append-le, set-split, drop-drop, append-snoc, length-take-le}
 use Rattle.rules.specs.Rules.{Facts, newest}
 use Rattle.buffer.specs.Segments.{pad, part}
-use Rattle.buffer.specs.Layout.{spread, row}
+use Rattle.buffer.specs.Layout.{spread}
 use Rattle.buffer.specs.Places.{LENGTHS, LISTS}
 use Rattle.buffer.specs.Good.{Shape}
 use Rattle.buffer.specs.Lists.{Holds, Listed, appended, permitted}
@@ -66,11 +66,6 @@ appended-room p n t h g =
     let e2 : 255 - (n + 1) ≡ 254 - n = omega arith in
     rw (set-split, r, l1, e1, l1, e2) (append-snoc (take n p) t (replicate (254 - n) 0))
 
--- what holds of a list of at most 255 that is padded
-pub pad-holds : (l : List ℕ) → length l ≤ 255 → Holds (pad 255 l) (length l)
-unfolding pad
-pad-holds l h = record { long = simp (length-append, length-replicate) (omega arith); used = h; zeros = drop-append-seam l _ }
-
 pub newest-length : (l : List ℕ) → length (newest l) ≡ min (length l) 255
 unfolding newest
 newest-length l = simp length-drop (omega arith)
@@ -90,9 +85,6 @@ appended-length p n t h = length-pad 255 (newest (take n p ++ (t ∷ []))) (omeg
 pub row-listed : (b : List ℕ) → Shape b → (k : ℕ) → k < 5 → Listed b k
 row-listed b h k l = record { long = h .long; five = l; holds = row-holds b h k l }
 
-pub listed-used : {b : List ℕ} {k : ℕ} → Listed b k → getD b (LENGTHS + k) 0 ≤ 255
-listed-used h = h .holds .used
-
 -- a permit on list k of facts and lists that are laid out
 module _ (f : Facts) (rs : List (List ℕ)) (s : Shaped f rs) (k : ℕ) (five : k < 5) (t : ℕ) where
   added : List ℕ
@@ -110,7 +102,3 @@ module _ (f : Facts) (rs : List (List ℕ)) (s : Shaped f rs) (k : ℕ) (five : 
       let l : List ℕ = getD rs k [] in
       let whole : part (spread f rs) (LISTS + 255 * k) 255 ≡ pad 255 l = places-at f rs s k 255 five (lit≤ tt) ∙ take-all 255 (pad 255 l) (le-of-eq (length-pad 255 l (s .short k))) in
       rw (count-at f rs s k five, whole, take-pad 255 l, ← added-length) (set-row f rs s k (newest (getD rs k [] ++ (t ∷ []))) five (omega (arith, added-length)))
-
--- as many times stand on a list as its length says
-pub listed-length : (b : List ℕ) (k : ℕ) → Listed b k → length (row b k) ≡ getD b (LENGTHS + k) 0
-listed-length b k h = let u = h .holds .used in let l = h .long in let f = h .five in length-part b (LISTS + 255 * k) (getD b (LENGTHS + k) 0) (omega arith)
