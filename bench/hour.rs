@@ -37,7 +37,7 @@ fn turns(name: &str, expected: u32, mut then: impl FnMut() -> u32, mut now: impl
         before = before.min(round(expected, &mut then));
         after = after.min(round(expected, &mut now));
     }
-    println!("{name:34} {before:7.1} ns, now {after:7.1} ns");
+    println!("{name:36} {before:7.1} ns, now {after:7.1} ns");
 }
 
 fn main() {
