@@ -15,7 +15,8 @@ use Rattle.text.proofs.Choice.{cond-by, absurd-bool}
 use Rattle.text.proofs.Printed.{below, num-print, num-said, dec-short}
 use Rattle.rules.specs.Calls.{Line, query, nfm, nfm-start, intervals, bad, typed}
 use Rattle.rules.specs.Tables.{ascending, scheduled}
-use Rattle.rules.specs.Rules.{Facts, refusal}
+use Rattle.rules.specs.Rules.{refusal}
+use Rattle.rules.specs.State.{Facts}
 use Rattle.at.specs.Lines.{starts, ends, at-nfm, at-nfmci, ask, cr, comma, flagOf, flags, ints, oneInt, intsLine, readLine}
 use Rattle.at.specs.Print.{printMore, printInts, printLine, Valid}
 use Rattle.at.proofs.IntsLaws.{ints-last, ints-more}

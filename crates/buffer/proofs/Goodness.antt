@@ -10,7 +10,7 @@ use lib.Dec.{lit<, lit≤, leb, ltb}
 use lib.Arith.{digits-div, digits-mod}
 use lib.ListN.{length, getD, take, drop, replicate, length-take, length-drop, take-append-drop, List·getD-map}
 use lib.Seq.{take-take, take-all, drop-append-seam}
-use Rattle.rules.specs.Rules.{State, Facts}
+use Rattle.rules.specs.State.{State, Facts}
 use Rattle.buffer.specs.Places.{SIZE, REMAINDER, COUNT, INTERVALS, LENGTHS, LISTS}
 use Rattle.buffer.specs.Segments.{concat, part, pad}
 use Rattle.buffer.specs.Layout.{widths, segments, spread, lay, rows, row, factsOf, view}

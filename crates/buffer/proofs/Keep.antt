@@ -10,10 +10,14 @@ use lib.ListN.{length, getD, set, drop, length-set, length-drop}
 use lib.Seq.{getD-set-same, getD-set-other}
 use borrow.Author.Tests.{leb-true, le-leb, eqb-true, eqb-false, eq-eqb}
 use Rattle.rules.specs.declared.Answer.{Answer}
-use Rattle.rules.specs.Calls.{Event, ask, granted, silent, rejected, dropped, tick, Line, nfm, nfm-start, intervals, query, bad, Call, timed, typed}
+use Rattle.rules.specs.Calls.{Line, nfm, nfm-start, intervals, query, bad, Call, timed, typed}
+use Rattle.rules.specs.declared.Event.{Event}
+use Rattle.rules.specs.declared.Event.the-variants.{Ask as ask, Outcome as outcome, Dropped as dropped, Tick as tick}
+use Rattle.rules.specs.declared.Outcome.the-variants.{Granted as granted, Silent as silent, Rejected as rejected}
 use Rattle.mixing.specs.Mixing.{drawn}
-use Rattle.rules.specs.Tables.{highestTime, Kind, among, action, moodOn, oneMore, interval, waitFor, ascending, scheduled}
-use Rattle.rules.specs.Rules.{State, Facts, Services, check, refusal, wait, failed, verdict, ruling, refused, moved, raised, counted, idle, asked, onGranted, onFailed, withStanding, acted, switched, obeyed, changed, onto, adds, learn, newest, short, step}
+use Rattle.rules.specs.Tables.{highestTime, Kind, among, counting, action, moodOn, oneMore, interval, waitFor, ascending, scheduled}
+use Rattle.rules.specs.Rules.{check, refusal, wait, failed, verdict, ruling, refused, moved, raised, counted, asked, onGranted, onFailed, onOutcome, acted, switched, obeyed, changed, enters, adds, learn, newest, short, step}
+use Rattle.rules.specs.State.{State, Facts, Services, withCounters, withServices, withStanding, idle}
 use Rattle.rules.proofs.Checks.{accepted, on-time, in-time, refused-adds, failed-wait, failed-on}
 use Rattle.rules.proofs.Newest.{acted-keeps, obeyed-keeps}
 use Rattle.buffer.specs.Good.{atMost, zeros, bytes, highestEnd, valid}
@@ -294,19 +298,18 @@ moved-sane f t s h g =
 
 counted-sane : (n : ℕ) (l : List ℕ) → SaneCounters l → SaneCounters (counted n l)
 unfolding counted
-counted-sane n l h = go (eqb n 11) (leb 13 n && leb n 16)
+counted-sane n l h = go (among n counting)
   where
     up : (i : ℕ) → SaneCounters (raised i l)
     up i = let x = oneMore (getD l i 0) in record { six = length-set l i x ∙ h .six; small = at-most-set 255 l i x (h .small) (omega arith) }
 
-    go : (x y : Bool) → SaneCounters (cond x (raised 0 l) (cond y (raised (n - 11) l) l))
-    go true y = up 0
-    go false true = up (n - 11)
-    go false false = h
+    go : (x : Bool) → SaneCounters (cond x (raised (n - 11) l) l)
+    go true = up (n - 11)
+    go false = h
 
 -- other counters and services
 with-sane : (f : Facts) (l : List ℕ) (v : Services) → Sane f → SaneCounters l → SaneServices (f .mode .nfm) v
-    → Sane (record { opening = f .opening; mode = f .mode; last = f .last; counters = l; services = v })
+    → Sane (withServices (withCounters f l) v)
 with-sane f l v s c h = record { opening = s .opening; mode = s .mode; late = s .late; early = s .early; counters = c; services = h }
 
 -- ---- The wait is at most 131,069
@@ -337,21 +340,21 @@ unfolding moodOn
 mood-on cause = cond-le (among cause (8 ∷ 27 ∷ 28 ∷ 29 ∷ 32 ∷ 33 ∷ [])) 2 3 3 (omega arith) (omega arith)
 
 acted-sane : (v : State) (t : ℕ) (e : Event) → Sane (v .facts) → v .facts .last ≤ t → t ≤ highestTime → (a : Answer) → a ≡ verdict v (timed t e) → Sane (acted t e a (moved t (v .facts)))
-unfolding acted verdict
+unfolding acted onOutcome verdict
 acted-sane v t e h p g a d = go e d
   where
     m : Sane (moved t (v .facts))
     m = moved-sane (v .facts) t h p g
 
     served : (u : Services) → SaneServices (moved t (v .facts) .mode .nfm) u
-        → Sane (record { opening = moved t (v .facts) .opening; mode = moved t (v .facts) .mode; last = moved t (v .facts) .last; counters = moved t (v .facts) .counters; services = u })
+        → Sane (withServices (moved t (v .facts)) u)
     served u w = with-sane (moved t (v .facts)) (moved t (v .facts) .counters) u m (m .counters) w
 
     go : (e : Event) → a ≡ verdict v (timed t e) → Sane (acted t e a (moved t (v .facts)))
     go (ask q) d = with-sane (moved t (v .facts)) _ _ m (counted-sane (a .number) _ (m .counters)) (asked-sane _ _ (m .services) q (eqb (a .number) 0))
-    go (granted s) d = served _ (granted-sane _ _ s (m .services))
-    go (silent s) d = served _ (failed-sane _ _ t s a 1 (m .services) (omega arith) (backs (v .facts) t s 20 h g a d))
-    go (rejected s cause second) d = served _ (failed-sane _ _ t s a (moodOn cause) (m .services) (mood-on cause) (backs (v .facts) t s (action s cause second) h g a d))
+    go (outcome s granted) d = served _ (granted-sane _ _ s (m .services))
+    go (outcome s silent) d = served _ (failed-sane _ _ t s a 1 (m .services) (omega arith) (backs (v .facts) t s 20 h g a d))
+    go (outcome s (rejected cause second)) d = served _ (failed-sane _ _ t s a (moodOn cause) (m .services) (mood-on cause) (backs (v .facts) t s (action s cause second) h g a d))
     go dropped d = served _ (stands-low _ _ (m .services) 2 0 (omega arith))
     go tick d = m
 
@@ -458,7 +461,7 @@ module _ (v : State) (h : Valid v) where
       record {
         sane = acted-sane v t e (h .sane) late (in-time (v .facts) t e p) a d;
         short = λ k. newest-short _;
-        rising = λ k. rw (keeps .0, keeps .1, m .0, m .1) (listed _ _ t (v .lists k) (eqb (a .number) 0 && onto e k) (h .sane .late) late (h .rising k));
+        rising = λ k. rw (keeps .0, keeps .1, m .0, m .1) (listed _ _ t (v .lists k) (enters e (a .number) k) (h .sane .late) late (h .rising k));
       }
   accepted-valid (typed l) a d p =
       let keeps = obeyed-keeps l (v .facts) in

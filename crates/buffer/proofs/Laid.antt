@@ -6,7 +6,8 @@ use Prim.Native.Nat.{ℕ, _+_, _≤_, _<_}
 use native.Mathlib.Omega.{arith}
 use lib.Dec.{lit<}
 use lib.ListN.{length, getD, set, length-set}
-use Rattle.rules.specs.Rules.{Facts, Mode, idle, newest}
+use Rattle.rules.specs.Rules.{newest}
+use Rattle.rules.specs.State.{Facts, withLast, withMode, withCounters, withServices, idle}
 use Rattle.buffer.specs.Places.{SIZE, LAST, NFM, START, COUNT, INTERVALS, FAILURES, ENDS, STANDING, MOOD, COUNTERS}
 use Rattle.buffer.specs.Segments.{concat, pad, paste}
 use Rattle.buffer.specs.Layout.{widths, segments, spread, rows, factsOf, view}
@@ -17,18 +18,9 @@ use Rattle.buffer.proofs.Segments.{paste-seg, width-set}
 use Rattle.buffer.proofs.Goodness.{shape-lay, shaped, lay-view, good-shape}
 use Rattle.buffer.proofs.Listing.{shaped-permit, permit-row, row-listed}
 
--- facts with one part replaced
-abbrev pub withLast : Facts → ℕ → Facts
-withLast f t = record { opening = f .opening; mode = f .mode; last = t; counters = f .counters; services = f .services }
-
-abbrev pub withCounters : Facts → List ℕ → Facts
-withCounters f l = record { opening = f .opening; mode = f .mode; last = f .last; counters = l; services = f .services }
-
-abbrev pub withMode : Facts → Mode → Facts
-withMode f m = record { opening = f .opening; mode = m; last = f .last; counters = f .counters; services = f .services }
-
-abbrev pub withServices : Facts → (failures ends standing : List ℕ) → ℕ → Facts
-withServices f a b c m = record { opening = f .opening; mode = f .mode; last = f .last; counters = f .counters; services = record { failures = a; ends = b; standing = c; mood = m } }
+-- facts with the numbers of the services replaced
+abbrev pub withNumbers : Facts → (failures ends standing : List ℕ) → (mood : ℕ) → Facts
+withNumbers f a b c m = withServices f (record { failures = a; ends = b; standing = c; mood = m })
 
 -- four stores of 0
 pub all-four : (l : List ℕ) → length l ≡ 4 → set (set (set (set l 0 0) 1 0) 2 0) 3 0 ≡ idle
@@ -98,22 +90,22 @@ module _ {b : List ℕ} {f : Facts} {rs : List (List ℕ)} (l : Laid b f rs) whe
   unfolding spread segments
   laid-start a = record { shaped = same-shape _ refl refl refl refl refl; is = rw (l .is) (put f rs (l .shaped) 4 1 a (lit< tt)) }
 
-  pub laid-mood : (a : ℕ) → Laid (set b MOOD a) (withServices f (f .services .failures) (f .services .ends) (f .services .standing) a) rs
+  pub laid-mood : (a : ℕ) → Laid (set b MOOD a) (withNumbers f (f .services .failures) (f .services .ends) (f .services .standing) a) rs
   unfolding spread segments
   laid-mood a = record { shaped = same-shape _ refl refl refl refl refl; is = rw (l .is) (put f rs (l .shaped) 13 0 a (lit< tt)) }
 
   pub laid-failures : (i a : ℕ) → i < 4
-      → Laid (set b (FAILURES + i) a) (withServices f (set (f .services .failures) i a) (f .services .ends) (f .services .standing) (f .services .mood)) rs
+      → Laid (set b (FAILURES + i) a) (withNumbers f (set (f .services .failures) i a) (f .services .ends) (f .services .standing) (f .services .mood)) rs
   unfolding spread segments
   laid-failures i a h = record { shaped = same-shape _ refl (length-set (f .services .failures) i a) refl refl refl; is = rw (l .is) (put f rs (l .shaped) 10 i a h) }
 
   pub laid-end : (i a : ℕ) → i < 4
-      → Laid (set b (ENDS + i) a) (withServices f (f .services .failures) (set (f .services .ends) i a) (f .services .standing) (f .services .mood)) rs
+      → Laid (set b (ENDS + i) a) (withNumbers f (f .services .failures) (set (f .services .ends) i a) (f .services .standing) (f .services .mood)) rs
   unfolding spread segments
   laid-end i a h = record { shaped = same-shape _ refl refl (length-set (f .services .ends) i a) refl refl; is = rw (l .is) (put f rs (l .shaped) 11 i a h) }
 
   pub laid-standing : (i a : ℕ) → i < 4
-      → Laid (set b (STANDING + i) a) (withServices f (f .services .failures) (f .services .ends) (set (f .services .standing) i a) (f .services .mood)) rs
+      → Laid (set b (STANDING + i) a) (withNumbers f (f .services .failures) (f .services .ends) (set (f .services .standing) i a) (f .services .mood)) rs
   unfolding spread segments
   laid-standing i a h = record { shaped = same-shape _ refl refl refl (length-set (f .services .standing) i a) refl; is = rw (l .is) (put f rs (l .shaped) 12 i a h) }
 

@@ -8,7 +8,7 @@ use lib.Dec.{lit<}
 use lib.ListN.{length, getD, take, set, replicate, getD-replicate, length-append, length-set, length-replicate, List·getD-map, length-map, drop-of-length-le}
 use lib.Seq.{take-append-seam, take-all}
 use Rattle.rules.specs.Tables.{Kind, attach, activation, pdp, sms, reset}
-use Rattle.rules.specs.Rules.{State, Facts}
+use Rattle.rules.specs.State.{State, Facts}
 use Rattle.buffer.specs.Segments.{concat, off, part, pad, paste}
 use Rattle.buffer.specs.Places.{LENGTHS, LISTS}
 use Rattle.buffer.specs.Layout.{widths, segments, spread, lay, rows, place, row, factsOf, view}

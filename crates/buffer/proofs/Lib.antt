@@ -8,3 +8,4 @@ pub mod Scans
 pub mod Judged
 pub mod Listing
 pub mod Laid
+pub mod Starting

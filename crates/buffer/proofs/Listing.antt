@@ -9,7 +9,8 @@ use native.Mathlib.Omega.{arith}
 use lib.Dec.{lit≤}
 use lib.ListN.{length, take, drop, getD, set, replicate, length-append, length-drop}
 use lib.Seq.{take-all, drop-append-le, set-split, drop-drop, append-snoc, length-take-le}
-use Rattle.rules.specs.Rules.{Facts, newest}
+use Rattle.rules.specs.Rules.{newest}
+use Rattle.rules.specs.State.{Facts}
 use Rattle.buffer.specs.Segments.{pad, part}
 use Rattle.buffer.specs.Layout.{spread}
 use Rattle.buffer.specs.Places.{LENGTHS, LISTS}

@@ -9,7 +9,7 @@ use lib.ListN.{length, getD, List·getD-eq-default}
 use borrow.Author.Tests.{leb-true, le-leb, eqb-true, eq-eqb}
 use Rattle.rules.specs.Calls.{Opening}
 use Rattle.rules.specs.Tables.{highestTime, Kind, attach, activation, pdp, sms, reset}
-use Rattle.rules.specs.Rules.{State, Facts, Mode, Services}
+use Rattle.rules.specs.State.{State, Facts, Mode, Services}
 use Rattle.buffer.specs.Layout.{rows, place}
 use Rattle.buffer.specs.Good.{every, atMost, zeros, bytes, highestEnd, parameters, house, rates, times-good, imsi-good, flags-good, count-good, intervals-good, ends-good, standing-good, mood-good, list-good, fits, values, valid}
 use Rattle.rules.proofs.Checks.{and-left, and-right}

@@ -7,7 +7,7 @@ use lib.Dec.{leb, ltb, eqb}
 use lib.ListN.{length, getD, take, drop}
 use Rattle.rules.specs.Calls.{Opening}
 use Rattle.rules.specs.Tables.{highestTime, ascending}
-use Rattle.rules.specs.Rules.{State, Services}
+use Rattle.rules.specs.State.{State, Services}
 use Rattle.buffer.specs.Places.{SIZE, LETTERS, VERSION, REMAINDER, COUNT, INTERVALS, LENGTHS, LISTS}
 use Rattle.buffer.specs.Segments.{part}
 use Rattle.buffer.specs.Layout.{letters, rows, row, factsOf}

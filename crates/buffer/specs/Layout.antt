@@ -3,7 +3,7 @@ use Prim.Native.Nat.{ℕ, _+_, _*_, _/_, _%_, _^_}
 use mathlib.Core.List.{List, [], _∷_, map}
 use lib.ListN.{length, getD}
 use Rattle.rules.specs.Tables.{Kind, attach, activation, pdp, sms, reset}
-use Rattle.rules.specs.Rules.{State, Facts}
+use Rattle.rules.specs.State.{State, Facts}
 use Rattle.buffer.specs.Segments.{concat, part, pad}
 use Rattle.buffer.specs.Places.{OPENED, LAST, QUOTIENT, REMAINDER, NFM, START, RPM, COUNT, INTERVALS, PARAMETERS, HOUSE, RATES, FAILURES, ENDS, STANDING, MOOD, COUNTERS, LENGTHS, LISTS}
 

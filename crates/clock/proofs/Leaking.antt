@@ -6,14 +6,16 @@ use Prim.Native.Nat.{ℕ, zero, suc, _+_, _-_, _≤_, _<_}
 use native.Mathlib.Omega.{arith}
 use lib.Dec.{lit<}
 use lib.ListN.{length, getD, set}
-use Rattle.rules.specs.Calls.{timed, tick, answer}
-use Rattle.rules.specs.Rules.{Facts, timely, inRange, stands, refusal, verdict, ruling, points, moved, acted, changed, onto, adds}
+use Rattle.rules.specs.Calls.{timed, answer}
+use Rattle.rules.specs.declared.Event.the-variants.{Tick as tick}
+use Rattle.rules.specs.Rules.{timely, inRange, stands, refusal, verdict, ruling, points, moved, acted, changed, enters, adds}
+use Rattle.rules.specs.State.{Facts, withCounters}
 use Rattle.buffer.specs.Places.{LAST, RATES, COUNTERS}
 use Rattle.buffer.specs.Layout.{spread, rows, factsOf, view}
 use Rattle.buffer.specs.Good.{good, rates}
 use Rattle.buffer.proofs.Goodness.{at-most, valid-view}
 use Rattle.buffer.proofs.Sane.{valid-facts}
-use Rattle.buffer.proofs.Laid.{Laid, withCounters, laid-good, laid-as, laid-last, laid-counter, counter-at}
+use Rattle.buffer.proofs.Laid.{Laid, laid-good, laid-as, laid-last, laid-counter, counter-at}
 use Rattle.clock.specs.Call.{Says}
 use Rattle.clock.specs.Clock.{dueOf, drained, leaked}
 use Rattle.clock.proofs.Saying.{says-good, says-refused, moves}
@@ -88,5 +90,5 @@ module _ (b : List ℕ) (g : good b ≡ true) (t : ℕ) where
   ticks-late h = says-refused b g (timed t tick) (answer 3 0) (tick-late h) refl
 
   pub ticks : {x : List ℕ} → timely (factsOf b) t ≡ true → x ≡ spread (moved t (factsOf b)) (rows (view b .lists)) → Says b (timed t tick) (answer 0 0) x
-  unfolding changed acted adds onto
+  unfolding changed acted adds enters
   ticks h e = says-good b g (timed t tick) (answer 0 0) (tick-done h) (e ∙ sym (moves b g (timed t tick) (answer 0 0) (tick-done h) refl (λ k. refl)))

@@ -3,14 +3,14 @@ use mathlib.Core.Path.{_≡_, refl, sym, _∙_}
 use mathlib.Core.Bool.{Bool, true, false, cond, not}
 use mathlib.Core.List.{List, [], _++_, append-nil}
 use Prim.Native.Nat.{ℕ, _≤_}
-use native.Mathlib.Omega.{arith}
 use lib.ListN.{length}
-use borrow.Author.Tests.{ne-eqb, le-leb, not-true, not-false}
+use borrow.Author.Tests.{ne-eqb, not-true, not-false}
 use Rattle.rules.specs.declared.Answer.{Answer}
-use Rattle.rules.specs.Calls.{Event, Call, timed, answer}
+use Rattle.rules.specs.Calls.{Call, timed, answer}
+use Rattle.rules.specs.declared.Event.{Event}
 use Rattle.rules.specs.Tables.{Kind}
 use Rattle.rules.specs.Rules.{refusal, verdict, ruling, refused, changed, adds, learn, newest, short, step}
-use Rattle.rules.proofs.Checks.{refusal-low, refused-adds}
+use Rattle.rules.proofs.Checks.{refusal-listed, refused-adds}
 use Rattle.buffer.specs.Places.{SIZE}
 use Rattle.buffer.specs.Layout.{spread, lay, rows, factsOf, view}
 use Rattle.buffer.specs.Good.{good}
@@ -90,8 +90,7 @@ module _ (b : List ℕ) (g : good b ≡ true) (t : ℕ) (e : Event) (n : ℕ) (d
 
   pub says-number : (n ≡ 0 → ⊥) → Says b (timed t e) (answer n 0) b
   says-number h =
-      let low : n ≤ 5 = rw d (refusal-low (factsOf b) (timed t e)) in
-      let r : refused (answer n 0) ≡ true = rw (le-leb 1 n (omega arith), le-leb n 5 low) in
+      let r : refused (answer n 0) ≡ true = rw d (refusal-listed (factsOf b) (timed t e) (rw d at h)) in
       says-refused b g (timed t e) (answer n 0) (event-refused h) r
 
   pub rules-on : n ≡ 0 → ruling (view b) (timed t e) ≡ verdict (view b) (timed t e)

@@ -1,7 +1,7 @@
 // The clock: every timed call moves it first, and the clock call does nothing more. With it stand what all timed calls share: the order of
 // the checks 2, 3 and 4, and the check of the time.
 //
-// `tick` is the call; `tick_in` is the same on a buffer that is known to be good.
+// `tick_in` is the clock call on a buffer that is known to be good.
 use buffer::fields;
 use rules::Answer;
 ghost use mathlib.Core.Path.{_≡_};
@@ -9,8 +9,9 @@ ghost use mathlib.Core.Bool.{true, _&&_};
 ghost use Prim.Native.Nat.{_*_, _/_, _-_, _<_, _≤_};
 ghost use lib.ListN.{length, getD};
 ghost use lib.Dec.{leb};
-ghost use Rattle.rules.specs.Calls.{timed, tick};
-ghost use Rattle.rules.specs.Tables.{highestTime};
+ghost use Rattle.rules.specs.Calls.{timed};
+ghost use Rattle.rules.specs.declared.Event.the-variants.{Tick as tick};
+ghost use Rattle.rules.specs.Tables.{highestTime, among, refusals};
 ghost use Rattle.rules.specs.Rules.{check, moved};
 ghost use Rattle.buffer.specs.Places.{SIZE, LAST};
 ghost use Rattle.buffer.specs.Layout.{spread, rows, factsOf, view};
@@ -117,6 +118,13 @@ pub fn refuse(range: bool, time: bool, standing: bool) -> u32
     0
 }
 
+// Whether n is the number of a refusal.
+pub fn refused(n: u32) -> bool
+    ensures { λ r. ⌜ r ≡ among n refusals ⌝ }
+{
+    (n == 1) | (n == 2) | (n == 3) | (n == 4) | (n == 5)
+}
+
 // The clock call on a good buffer.
 pub fn tick_in(s: &mut [u32], t: u32) -> Answer
     requires { ⌜ length (now s) ≡ SIZE ⌝ }
@@ -134,17 +142,4 @@ pub fn tick_in(s: &mut [u32], t: u32) -> Answer
         number: 0,
         second: 0,
     }
-}
-
-// The clock call.
-pub fn tick(s: &mut [u32], t: u32) -> Answer
-    ensures { λ r. ⌜ Says (now (s .entry)) (timed t tick) r (now (s .exit)) ⌝ }
-{
-    if !buffer::is_good(s) {
-        return Answer {
-            number: 1,
-            second: 0,
-        };
-    }
-    tick_in(s, t)
 }

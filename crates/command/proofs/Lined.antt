@@ -10,12 +10,13 @@ use lib.ListN.{length, getD, set}
 use lib.Seq.{sets, length-sets}
 use Rattle.rules.specs.declared.Answer.{Answer}
 use Rattle.rules.specs.Calls.{Line, query, nfm, nfm-start, intervals, bad, typed, answer}
-use Rattle.rules.specs.Rules.{Facts, ruling, refusal, refused, verdict, changed, obeyed, switched, adds, idle}
+use Rattle.rules.specs.Rules.{ruling, refusal, refused, verdict, changed, obeyed, switched, adds}
+use Rattle.rules.specs.State.{Facts, withMode, withServices, withBackoffs, idle}
 use Rattle.buffer.specs.Places.{NFM, START}
 use Rattle.buffer.specs.Segments.{pad, paste}
 use Rattle.buffer.specs.Layout.{rows, factsOf, view}
 use Rattle.buffer.specs.Good.{good}
-use Rattle.buffer.proofs.Laid.{Laid, withMode, withServices, all-four, laid-good, laid-as, laid-nfm, laid-start, laid-failures, laid-end, laid-intervals}
+use Rattle.buffer.proofs.Laid.{Laid, withNumbers, all-four, laid-good, laid-as, laid-nfm, laid-start, laid-failures, laid-end, laid-intervals}
 use Rattle.buffer.proofs.Laying.{length-pad}
 use Rattle.buffer.proofs.Goodness.{valid-view}
 use Rattle.buffer.proofs.Sane.{valid-facts}
@@ -31,18 +32,18 @@ use Rattle.at.proofs.RoundTrip.{from-scheduled, accepted, read-accepted}
 use Rattle.command.specs.Command.{okay, shown, reply, calmed, turned, timedBy, heard, CommandSays}
 
 abbrev quiet : Facts → Facts
-quiet f = withServices f idle idle (f .services .standing) (f .services .mood)
+quiet f = withServices f (withBackoffs (f .services) idle idle)
 
 -- service i without failure and end
 laid-calm : {b : List ℕ} {f : Facts} {rs : List (List ℕ)} → Laid b f rs → (i : ℕ) → i < 4
-    → Laid (stored b i clear) (withServices f (set (f .services .failures) i 0) (set (f .services .ends) i 0) (f .services .standing) (f .services .mood)) rs
+    → Laid (stored b i clear) (withNumbers f (set (f .services .failures) i 0) (set (f .services .ends) i 0) (f .services .standing) (f .services .mood)) rs
 laid-calm l i h = laid-end (laid-failures l i 0 h) i 0 h
 
 -- all four
 laid-calmed : {b : List ℕ} {f : Facts} {rs : List (List ℕ)} → Laid b f rs → Laid (calmed b) (quiet f) rs
 laid-calmed {b} {f} {rs} l =
-    subst (λ (x : List ℕ). Laid (calmed b) (withServices f x idle (f .services .standing) (f .services .mood)) rs) (all-four (f .services .failures) (l .shaped .failures))
-    (subst (λ (x : List ℕ). Laid (calmed b) (withServices f (set (set (set (set (f .services .failures) 0 0) 1 0) 2 0) 3 0) x (f .services .standing) (f .services .mood)) rs) (all-four (f .services .ends) (l .shaped .ends))
+    subst (λ (x : List ℕ). Laid (calmed b) (withNumbers f x idle (f .services .standing) (f .services .mood)) rs) (all-four (f .services .failures) (l .shaped .failures))
+    (subst (λ (x : List ℕ). Laid (calmed b) (withNumbers f (set (set (set (set (f .services .failures) 0 0) 1 0) 2 0) 3 0) x (f .services .standing) (f .services .mood)) rs) (all-four (f .services .ends) (l .shaped .ends))
     (laid-calm (laid-calm (laid-calm (laid-calm l 0 (lit< tt)) 1 (lit< tt)) 2 (lit< tt)) 3 (lit< tt)))
 
 laid-turned : {b : List ℕ} {f : Facts} {rs : List (List ℕ)} → Laid b f rs → (a s : ℕ) → Laid (turned b a s) (switched a s f) rs
@@ -53,13 +54,8 @@ laid-turned {b} {f} {rs} l a s = go (eqb a 0)
     m = laid-start (laid-nfm l a) s
 
     go : (x : Bool) → Laid (cond x (calmed (set (set b NFM a) START s)) (set (set b NFM a) START s))
-        (record {
-          opening = f .opening;
-          mode = record { nfm = a; start = s; intervals = f .mode .intervals };
-          last = f .last;
-          counters = f .counters;
-          services = record { failures = cond x idle (f .services .failures); ends = cond x idle (f .services .ends); standing = f .services .standing; mood = f .services .mood };
-        })
+        (withServices (withMode f (record { nfm = a; start = s; intervals = f .mode .intervals }))
+        (withBackoffs (f .services) (cond x idle (f .services .failures)) (cond x idle (f .services .ends))))
         rs
     go true = laid-calmed m
     go false = m

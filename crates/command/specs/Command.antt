@@ -7,7 +7,7 @@ use lib.Dec.{eqb, leb}
 use lib.ListN.{length, set}
 use Rattle.rules.specs.declared.Answer.{Answer}
 use Rattle.rules.specs.Calls.{Line, query, nfm, nfm-start, intervals, bad, typed, answer}
-use Rattle.rules.specs.Rules.{Facts}
+use Rattle.rules.specs.State.{Facts}
 use Rattle.buffer.specs.Places.{NFM, START, COUNT, INTERVALS}
 use Rattle.buffer.specs.Segments.{pad, paste}
 use Rattle.buffer.specs.Layout.{factsOf}

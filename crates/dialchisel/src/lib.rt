@@ -1,7 +1,9 @@
 // The C interface: the ten calls of the gate, exported. Each slice is a pointer and a count, and each call gives back two numbers.
 // include/dialchisel.h says what the caller owes. Each call promises what the gate's own does.
 use rules::Answer;
-ghost use Rattle.rules.specs.Calls.{timed, ask, granted, silent, rejected, dropped, tick};
+ghost use Rattle.rules.specs.Calls.{timed};
+ghost use Rattle.rules.specs.declared.Event.the-variants.{Ask as ask, Outcome as outcome, Dropped as dropped, Tick as tick};
+ghost use Rattle.rules.specs.declared.Outcome.the-variants.{Granted as granted, Silent as silent, Rejected as rejected};
 ghost use Rattle.clock.specs.Call.{Says};
 ghost use Rattle.reasons.specs.Why.{RoomSays};
 ghost use Rattle.opening.specs.Open.{order, OpenSays};
@@ -65,7 +67,7 @@ pub extern "C" fn dialchisel_why(state: &[u32], time: u32, kind: u32, times: &mu
 // What was asked of a service was granted.
 #[no_mangle]
 pub extern "C" fn dialchisel_granted(state: &mut [u32], time: u32, service: u32) -> Answer
-    ensures { λ r. ⌜ Says (now (state .entry)) (timed time (granted service)) r (now (state .exit)) ⌝ }
+    ensures { λ r. ⌜ Says (now (state .entry)) (timed time (outcome service granted)) r (now (state .exit)) ⌝ }
 {
     gate::granted(state, time, service)
 }
@@ -79,7 +81,7 @@ pub extern "C" fn dialchisel_rejected(
     cause: u32,
     second: u32,
 ) -> Answer
-    ensures { λ r. ⌜ Says (now (state .entry)) (timed time (rejected service cause second)) r (now (state .exit)) ⌝ }
+    ensures { λ r. ⌜ Says (now (state .entry)) (timed time (outcome service (rejected cause second))) r (now (state .exit)) ⌝ }
 {
     gate::rejected(state, time, service, cause, second)
 }
@@ -87,7 +89,7 @@ pub extern "C" fn dialchisel_rejected(
 // What was asked of a service had no answer.
 #[no_mangle]
 pub extern "C" fn dialchisel_silent(state: &mut [u32], time: u32, service: u32) -> Answer
-    ensures { λ r. ⌜ Says (now (state .entry)) (timed time (silent service)) r (now (state .exit)) ⌝ }
+    ensures { λ r. ⌜ Says (now (state .entry)) (timed time (outcome service silent)) r (now (state .exit)) ⌝ }
 {
     gate::silent(state, time, service)
 }

@@ -6,8 +6,9 @@ use Prim.Native.Nat.{ℕ}
 use lib.Dec.{leb}
 use lib.ListN.{length}
 use Rattle.rules.specs.declared.Answer.{Answer}
-use Rattle.rules.specs.Calls.{Given, Call, typed}
+use Rattle.rules.specs.Calls.{Call, typed}
 use Rattle.rules.specs.Tables.{highestTime}
+use Rattle.rules.specs.State.{State}
 use Rattle.clock.specs.Call.{Says}
 use Rattle.opening.specs.Open.{Order, Typed, settings, files, givenBy, OpenSays}
 use Rattle.saving.specs.Save.{SaveSays}
@@ -39,10 +40,10 @@ accepts o = settings o && files o && leb (o .time) highestTime
 
 -- since the last accepted opening: what it was given, and the calls after it, the oldest first; a line whose room is under 16 bytes is not read
 pub record Since : Type 0 where
-  pub given : Given
+  pub given : State
   pub before : List Call
 
-abbrev pub since : Given → List Call → List Doing → Since
+abbrev pub since : State → List Call → List Doing → Since
 since g cs [] = record { given = g; before = cs }
 since g cs (opens o ∷ ds) = cond (accepts o) (since (givenBy o) [] ds) (since g cs ds)
 since g cs (calls c ∷ ds) = since g (cs ++ (c ∷ [])) ds

@@ -5,8 +5,12 @@
 // `CommandSays` and `SaveSays`; of `why`, which changes nothing, what it says, `whyOf` and `RoomSays`. Each allows one result only.
 use reasons::said::Why;
 use rules::Answer;
+use rules::Event;
+use rules::Outcome;
 ghost use mathlib.Core.Path.{_≡_};
-ghost use Rattle.rules.specs.Calls.{timed, ask, granted, silent, rejected, dropped, tick};
+ghost use Rattle.rules.specs.Calls.{timed};
+ghost use Rattle.rules.specs.declared.Event.the-variants.{Ask as ask, Outcome as outcome, Dropped as dropped, Tick as tick};
+ghost use Rattle.rules.specs.declared.Outcome.the-variants.{Granted as granted, Silent as silent, Rejected as rejected};
 ghost use Rattle.clock.specs.Call.{Says};
 ghost use Rattle.reasons.specs.Why.{whyOf, RoomSays};
 ghost use Rattle.opening.specs.Open.{order, OpenSays};
@@ -53,7 +57,7 @@ pub fn open<'a, 'b>(
 pub fn request(state: &mut [u32], time: u32, kind: u32) -> Answer
     ensures { λ r. ⌜ Says (now (state .entry)) (timed time (ask kind)) r (now (state .exit)) ⌝ }
 {
-    request::request(state, time, kind)
+    events::happen(state, time, Event::Ask(kind))
 }
 
 // Why would request `kind` not be permitted at `time`? Which rules stand against it, which comes first, and which permit of each limit has to leave
@@ -73,37 +77,41 @@ pub fn why_into(state: &[u32], time: u32, kind: u32, times: &mut [u32]) -> Answe
 
 // What was asked of a service was granted.
 pub fn granted(state: &mut [u32], time: u32, service: u32) -> Answer
-    ensures { λ r. ⌜ Says (now (state .entry)) (timed time (granted service)) r (now (state .exit)) ⌝ }
+    ensures { λ r. ⌜ Says (now (state .entry)) (timed time (outcome service granted)) r (now (state .exit)) ⌝ }
 {
-    outcome::granted(state, time, service)
+    events::happen(state, time, Event::Outcome(service, Outcome::Granted))
 }
 
 // What was asked of a service was rejected with a cause; `second` says whether a second network exists. 20 to 23 say what to do.
 pub fn rejected(state: &mut [u32], time: u32, service: u32, cause: u32, second: u32) -> Answer
-    ensures { λ r. ⌜ Says (now (state .entry)) (timed time (rejected service cause second)) r (now (state .exit)) ⌝ }
+    ensures { λ r. ⌜ Says (now (state .entry)) (timed time (outcome service (rejected cause second))) r (now (state .exit)) ⌝ }
 {
-    outcome::rejected(state, time, service, cause, second)
+    events::happen(
+        state,
+        time,
+        Event::Outcome(service, Outcome::Rejected(cause, second)),
+    )
 }
 
 // What was asked of a service had no answer.
 pub fn silent(state: &mut [u32], time: u32, service: u32) -> Answer
-    ensures { λ r. ⌜ Says (now (state .entry)) (timed time (silent service)) r (now (state .exit)) ⌝ }
+    ensures { λ r. ⌜ Says (now (state .entry)) (timed time (outcome service silent)) r (now (state .exit)) ⌝ }
 {
-    outcome::silent(state, time, service)
+    events::happen(state, time, Event::Outcome(service, Outcome::Silent))
 }
 
 // Service 2, which was up, was dropped.
 pub fn dropped(state: &mut [u32], time: u32) -> Answer
     ensures { λ r. ⌜ Says (now (state .entry)) (timed time dropped) r (now (state .exit)) ⌝ }
 {
-    outcome::dropped(state, time)
+    events::happen(state, time, Event::Dropped)
 }
 
 // The clock call: time passes, and nothing else.
 pub fn tick(state: &mut [u32], time: u32) -> Answer
     ensures { λ r. ⌜ Says (now (state .entry)) (timed time tick) r (now (state .exit)) ⌝ }
 {
-    clock::tick(state, time)
+    events::happen(state, time, Event::Tick)
 }
 
 // An AT line, its CR included: what it says is done, and its answer is written to the room, of at least 16 bytes. The second number is the bytes

@@ -11,19 +11,21 @@ use Rattle.rules.specs.declared.Answer.{Answer}
 use Rattle.rules.specs.Calls.{C-PDP-1, Call}
 use Rattle.rules.specs.Tables.{within, action, moodOn, waitFor, ascending, ofSix}
 use Rattle.rules.specs.Record.{counter}
-use Rattle.rules.specs.Rules.{State, limits, blocks, inRange, stands, refusal, runs, wait, failed, verdict, ruling, points, moved, counted, asked, onGranted, onFailed, acted, switched, obeyed, changed, onto, adds, learn, fresh, known, answers, short, step, held, heldAnswers}
+use Rattle.rules.specs.Rules.{limits, blocks, inRange, stands, refusal, runs, wait, failed, verdict, ruling, points, moved, counted, asked, onGranted, onFailed, onOutcome, acted, switched, obeyed, changed, enters, adds, learn, known, answers, short, step, held, heldAnswers}
+use Rattle.rules.specs.State.{State, fresh}
 use Rattle.rules.specs.Told.{tells, told}
-use Rattle.rules.proofs.RecordTells.{answers-told, as-told}
-use Rattle.rules.proofs.Demand3.{held-told, held-answers}
+use Rattle.rules.proofs.RecordTells.{Begins, answers-told, as-told}
+use Rattle.rules.proofs.Demand3.{Starts, held-told, held-answers}
 use Rattle.buffer.specs.Layout.{lay, factsOf}
 use Rattle.buffer.specs.Good.{atMost, bytes, every, valid}
 use Rattle.buffer.proofs.Tests.{pick}
 use Rattle.buffer.proofs.Goodness.{view-lay-valid}
 use Rattle.buffer.proofs.Keep.{keep}
+use Rattle.buffer.proofs.Starting.{valid-starts}
 use Rattle.card.specs.Card.{blank, file, absent, goodOrAbsent, bothGood, rulingFile, part, written}
 use Rattle.clock.specs.Call.{callAfter}
 use Rattle.opening.specs.Open.{Order, Typed, settings, files, openNumber, begun, givenBy, openAfter}
-use Rattle.opening.proofs.Opened.{opened-bytes, opened-valid}
+use Rattle.opening.proofs.Opened.{opened-valid}
 use Rattle.gate.proofs.Demand3.{answer-lay, after-lay}
 use Rattle.lesson.specs.Cases.{Case, Seen, answersOn, leftBy, empty, seenOnBuffer, seenOverRecord, cases, expected}
 
@@ -31,13 +33,21 @@ use Rattle.lesson.specs.Cases.{Case, Seen, answersOn, leftBy, empty, see
 
 -- the same, run from state to state: this is what computes
 abbrev ran : Case → Seen
-ran c = let g = givenBy (c .from) in record { given = answers (fresh g) (c .calls); pdp1 = ofSix (known (fresh g) (c .calls) .facts .counters) C-PDP-1 }
+ran c = let g = givenBy (c .from) in record { given = answers g (c .calls); pdp1 = ofSix (known g (c .calls) .facts .counters) C-PDP-1 }
+
+-- a record may begin with a new buffer, accepted or not
+begins : (o : Order) → Begins (givenBy o)
+unfolding begun fresh
+begins o = record { counters = refl; failures = refl; ends = refl; standing = refl }
 
 seen-ran : (c : Case) → seenOverRecord c ≡ ran c
-seen-ran c i = let g = givenBy (c .from) in record { given = sym (answers-told g (c .calls)) i; pdp1 = sym (as-told g (c .calls) .counters C-PDP-1) i }
+seen-ran c i =
+    let g = givenBy (c .from) in
+    let h = begins (c .from) in
+    record { given = sym (answers-told g h (c .calls)) i; pdp1 = sym (as-told g h (c .calls) .counters C-PDP-1) i }
 
 computed : map ran cases ≡ expected
-unfolding mixed begun part bothGood goodOrAbsent absent file blank rulingFile within action moodOn waitFor limits blocks inRange stands refusal runs wait failed verdict ruling points moved counted asked onGranted onFailed acted switched obeyed changed onto adds learn fresh
+unfolding mixed begun part bothGood goodOrAbsent absent file blank rulingFile within action moodOn waitFor limits blocks inRange stands refusal runs wait failed verdict ruling points moved counted asked onGranted onFailed onOutcome acted switched obeyed changed enters adds learn fresh
 computed = refl
 
 pub figures-over-the-record : map seenOverRecord cases ≡ expected
@@ -78,37 +88,38 @@ fine o h =
     }
 
 module _ (c : Case) (f : Fine (c .from)) where
-  ok : valid (fresh (givenBy (c .from))) ≡ true
+  g : State
+  g = givenBy (c .from)
+
+  ok : valid g ≡ true
+  unfolding g
   ok = opened-valid empty (c .from) (f .accepted) (f .typed)
 
-  opened : openAfter empty (c .from) ≡ lay (fresh (givenBy (c .from)))
-  unfolding openAfter
+  starts : Starts g
+  starts = valid-starts g ok
+
+  opened : openAfter empty (c .from) ≡ lay g
+  unfolding openAfter g
   opened = rw (f .accepted)
 
   counters-same : (v : State) → valid v ≡ true → getD (written (factsOf (lay v) .counters)) 2 0 ≡ getD (v .facts .counters) 2 0
   unfolding written
   counters-same v h = ap (λ (w : State). getD (w .facts .counters) 2 0) (view-lay-valid v h)
 
-  record-same : getD (held (fresh (givenBy (c .from))) (c .calls) .facts .counters) 2 0 ≡ counter (givenBy (c .from)) C-PDP-1 (told (givenBy (c .from)) (c .calls))
+  record-same : getD (held g (c .calls) .facts .counters) 2 0 ≡ counter g C-PDP-1 (told g (c .calls))
   unfolding short tells
-  record-same =
-      ap (λ (w : State). getD (w .facts .counters) 2 0)
-      (held-told (givenBy (c .from)) (opened-bytes empty (c .from) (f .accepted) (f .typed)) (c .calls))
+  record-same = ap (λ (w : State). getD (w .facts .counters) 2 0) (held-told g starts (c .calls))
 
   same : seenOnBuffer c ≡ seenOverRecord c
-  same =
-      let g = givenBy (c .from) in
-      λ i. record {
-        given =
-            (ap (λ (b : List ℕ). answersOn b (c .calls)) opened
-            ∙ answers-lay (fresh g) ok (c .calls)
-            ∙ held-answers g (opened-bytes empty (c .from) (f .accepted) (f .typed)) (c .calls)) i;
-        pdp1 =
-            (ap (λ (b : List ℕ). getD (written (factsOf (leftBy b (c .calls)) .counters)) 2 0) opened
-            ∙ ap (λ (b : List ℕ). getD (written (factsOf b .counters)) 2 0) (left-lay (fresh g) ok (c .calls))
-            ∙ counters-same (held (fresh g) (c .calls)) (held-valid (fresh g) ok (c .calls))
-            ∙ record-same) i;
-      }
+  unfolding g
+  same i = record {
+    given = (ap (λ (b : List ℕ). answersOn b (c .calls)) opened ∙ answers-lay g ok (c .calls) ∙ held-answers g starts (c .calls)) i;
+    pdp1 =
+        (ap (λ (b : List ℕ). getD (written (factsOf (leftBy b (c .calls)) .counters)) 2 0) opened
+        ∙ ap (λ (b : List ℕ). getD (written (factsOf b .counters)) 2 0) (left-lay g ok (c .calls))
+        ∙ counters-same (held g (c .calls)) (held-valid g ok (c .calls))
+        ∙ record-same) i;
+  }
 
 abbrev AllFine : List Case → Type 0
 AllFine [] = Unit {0}

@@ -4,7 +4,9 @@ use Prim.Native.Nat.{ℕ}
 use mathlib.Core.List.{List, [], _∷_, _++_}
 use lib.ListN.{getD, replicate}
 use Rattle.rules.specs.declared.Answer.{Answer}
-use Rattle.rules.specs.Calls.{C-PDP-1, ask, granted, silent, rejected, tick, Call, timed, answer}
+use Rattle.rules.specs.Calls.{C-PDP-1, Call, timed, answer}
+use Rattle.rules.specs.declared.Event.the-variants.{Ask as ask, Outcome as outcome, Tick as tick}
+use Rattle.rules.specs.declared.Outcome.the-variants.{Granted as granted, Silent as silent, Rejected as rejected}
 use Rattle.rules.specs.Record.{counter}
 use Rattle.rules.specs.Told.{ruledAll, told}
 use Rattle.buffer.specs.Places.{SIZE}
@@ -78,24 +80,24 @@ abbrev pub cases : List Case
 cases =
     -- C1
     case plain
-    (timed 0 (ask 2) ∷ timed 0 (silent 2) ∷ timed 1000 (ask 2) ∷ timed 1000 (silent 2) ∷ timed 2000 (ask 2) ∷ timed 2000 (silent 2) ∷ timed 3000 (ask 2) ∷ timed 3000 (silent 2) ∷ [])
+    (timed 0 (ask 2) ∷ timed 0 (outcome 2 silent) ∷ timed 1000 (ask 2) ∷ timed 1000 (outcome 2 silent) ∷ timed 2000 (ask 2) ∷ timed 2000 (outcome 2 silent) ∷ timed 3000 (ask 2) ∷ timed 3000 (outcome 2 silent) ∷ [])
     -- C2, C3
-    ∷ case plain (timed 1000 (ask 2) ∷ timed 1010 (rejected 2 26 0) ∷ timed 1112 (ask 2) ∷ timed 1113 (ask 2) ∷ [])
+    ∷ case plain (timed 1000 (ask 2) ∷ timed 1010 (outcome 2 (rejected 26 0)) ∷ timed 1112 (ask 2) ∷ timed 1113 (ask 2) ∷ [])
     -- C4, C5
-    ∷ case (from 0 1 0 0 0 2 0 0) (timed 10 (ask 3) ∷ timed 10 (granted 3) ∷ timed 20 (ask 3) ∷ timed 20 (granted 3) ∷ timed 3609 (ask 3) ∷ timed 3610 (ask 3) ∷ [])
+    ∷ case (from 0 1 0 0 0 2 0 0) (timed 10 (ask 3) ∷ timed 10 (outcome 3 granted) ∷ timed 20 (ask 3) ∷ timed 20 (outcome 3 granted) ∷ timed 3609 (ask 3) ∷ timed 3610 (ask 3) ∷ [])
     -- C6, C7
     ∷ case (from 0 1 1 0 0 0 0 0) (timed 100 (ask 5) ∷ timed 3699 (ask 5) ∷ timed 3700 (ask 5) ∷ [])
     -- C8
-    ∷ case (from 0 1 0 0 2 0 0 0) (timed 0 (ask 2) ∷ timed 1 (granted 2) ∷ timed 2 (ask 4) ∷ timed 3 (ask 2) ∷ [])
+    ∷ case (from 0 1 0 0 2 0 0 0) (timed 0 (ask 2) ∷ timed 1 (outcome 2 granted) ∷ timed 2 (ask 4) ∷ timed 3 (ask 2) ∷ [])
     -- C9
-    ∷ case (from 0 0 0 1 0 0 0 0) (timed 0 (ask 2) ∷ timed 1 (rejected 2 33 0) ∷ timed 2 (ask 2) ∷ [])
+    ∷ case (from 0 0 0 1 0 0 0 0) (timed 0 (ask 2) ∷ timed 1 (outcome 2 (rejected 33 0)) ∷ timed 2 (ask 2) ∷ [])
     -- C10
     ∷ case (from 0 1 0 0 0 0 1 3) (timed 3599 tick ∷ [])
     ∷ case (from 0 1 0 0 0 0 1 3) (timed 3599 tick ∷ timed 3600 tick ∷ [])
     ∷ case (from 0 1 0 0 0 0 1 3) (timed 3599 tick ∷ timed 3600 tick ∷ timed 10800 tick ∷ [])
     -- the printed trace, opened at 1000 with S1 = 2
     ∷ case (from 1000 1 0 0 0 2 0 0)
-    (timed 1000 (ask 2) ∷ timed 1010 (rejected 2 26 0) ∷ timed 1112 (ask 2) ∷ timed 1113 (ask 2) ∷ timed 1114 (granted 2) ∷ timed 1115 (ask 2) ∷ [])
+    (timed 1000 (ask 2) ∷ timed 1010 (outcome 2 (rejected 26 0)) ∷ timed 1112 (ask 2) ∷ timed 1113 (ask 2) ∷ timed 1114 (outcome 2 granted) ∷ timed 1115 (ask 2) ∷ [])
     ∷ []
 
 abbrev ok : Answer

@@ -4,7 +4,8 @@ use mathlib.Core.Path.{_≡_, ap, _∙_}
 use mathlib.Core.List.{List}
 use mathlib.Core.Logic.{_≢_}
 use borrow.Author.Tests.{ne-eqb}
-use Rattle.rules.specs.Calls.{Event, tick}
+use Rattle.rules.specs.declared.Event.{Event}
+use Rattle.rules.specs.declared.Event.the-variants.{Tick as tick}
 use Rattle.lines.specs.Trace.{letterQ, letterG, letterS, letterJ, letterD, letterT, howMany, eventOf}
 
 -- how many numbers, and what happens, of a letter that is known

@@ -4,7 +4,10 @@ use mathlib.Core.List.{List, [], _∷_, _++_}
 use Prim.Native.Nat.{ℕ, zero, suc}
 use lib.Dec.{eqb, leb}
 use lib.ListN.{length, getD, drop, replicate}
-use Rattle.rules.specs.Calls.{Call, timed, typed, Event, ask, granted, silent, rejected, dropped, tick}
+use Rattle.rules.specs.Calls.{Call, timed, typed}
+use Rattle.rules.specs.declared.Event.{Event}
+use Rattle.rules.specs.declared.Event.the-variants.{Ask as ask, Outcome as outcome, Dropped as dropped, Tick as tick}
+use Rattle.rules.specs.declared.Outcome.the-variants.{Granted as granted, Silent as silent, Rejected as rejected}
 use Rattle.buffer.specs.Segments.{pad}
 use Rattle.card.specs.Card.{rtc10}
 use Rattle.opening.specs.Open.{Order, order}
@@ -130,9 +133,9 @@ howMany x =
 unfoldable pub eventOf : ℕ → List ℕ → Event
 eventOf x n =
     cond (eqb x letterQ) (ask (getD n 1 0))
-    (cond (eqb x letterG) (granted (getD n 1 0))
-    (cond (eqb x letterS) (silent (getD n 1 0))
-    (cond (eqb x letterJ) (rejected (getD n 1 0) (getD n 2 0) (getD n 3 0))
+    (cond (eqb x letterG) (outcome (getD n 1 0) granted)
+    (cond (eqb x letterS) (outcome (getD n 1 0) silent)
+    (cond (eqb x letterJ) (outcome (getD n 1 0) (rejected (getD n 2 0) (getD n 3 0)))
     (cond (eqb x letterD) dropped tick))))
 
 -- Q, G, S, J, D, T: the time and up to three numbers more

@@ -1,6 +1,8 @@
 // One trace line in, its answer out. `answer` takes any buffer; `answer_in` is for one that is known to be good, and does not check it. Both
 // promise the same.
 use rules::Answer;
+use rules::Event;
+use rules::Outcome;
 use text::Num;
 ghost use mathlib.Core.Path.{_≡_};
 ghost use mathlib.Core.Bool.{true};
@@ -215,6 +217,29 @@ fn how_many(x: u8) -> usize
     0
 }
 
+// What happens, by the letter of a line and its numbers.
+fn event(x: u8, v: &[u32]) -> Event
+    requires { ⌜ length (now v) ≡ howMany x ⌝ }
+    ensures { λ r. ⌜ r ≡ eventOf x (now (v .entry)) ⌝ }
+{
+    if x == b'Q' {
+        return Event::Ask(v[1]);
+    }
+    if x == b'G' {
+        return Event::Outcome(v[1], Outcome::Granted);
+    }
+    if x == b'S' {
+        return Event::Outcome(v[1], Outcome::Silent);
+    }
+    if x == b'J' {
+        return Event::Outcome(v[1], Outcome::Rejected(v[2], v[3]));
+    }
+    if x == b'D' {
+        return Event::Dropped;
+    }
+    Event::Tick
+}
+
 // A timed call by its letter and its numbers, on a good buffer.
 fn happens(s: &mut [u32], x: u8, v: &[u32]) -> Answer
     requires { ⌜ length (now s) ≡ SIZE ⌝ }
@@ -222,23 +247,7 @@ fn happens(s: &mut [u32], x: u8, v: &[u32]) -> Answer
     requires { ⌜ (length (now v) ≡ howMany x) × (1 ≤ length (now v)) ⌝ }
     ensures { λ r. ⌜ Says (now (s .entry)) (timed (getD (now (v .entry)) 0 0) (eventOf x (now (v .entry)))) r (now (s .exit)) ⌝ }
 {
-    let time = v[0];
-    if x == b'Q' {
-        return request::request_in(s, time, v[1]);
-    }
-    if x == b'G' {
-        return outcome::granted_in(s, time, v[1]);
-    }
-    if x == b'S' {
-        return outcome::silent_in(s, time, v[1]);
-    }
-    if x == b'J' {
-        return outcome::rejected_in(s, time, v[1], v[2], v[3]);
-    }
-    if x == b'D' {
-        return outcome::dropped_in(s, time);
-    }
-    clock::tick_in(s, time)
+    events::happen_in(s, v[0], event(x, v))
 }
 
 // Q, G, S, J, D, T: a timed call. `ok` says whether the buffer is good.

@@ -8,7 +8,6 @@ use lib.ListN.{length, replicate}
 use borrow.Author.Tests.{leb-true, eqb-true}
 use Rattle.rules.specs.Calls.{answer}
 use Rattle.rules.specs.Tables.{highestTime, ascending, scheduled}
-use Rattle.rules.specs.Rules.{fresh}
 use Rattle.buffer.specs.Places.{SIZE}
 use Rattle.buffer.specs.Layout.{lay}
 use Rattle.rules.proofs.Checks.{and-left, and-right}
@@ -51,7 +50,7 @@ module _ (o : Order) where
       go false = refl
 
   -- the new buffer, by the parts that the code has
-  pub laid : {p q k : List ℕ} → p ≡ P → q ≡ Q → k ≡ K → lay (fresh (begun (order (o .time) (o .imsi) (o .intervals) (o .nfm) (o .rpm) (o .A1) (o .S1) [] [] [] [] []) p q k)) ≡ lay (fresh (givenBy o))
+  pub laid : {p q k : List ℕ} → p ≡ P → q ≡ Q → k ≡ K → lay (begun (order (o .time) (o .imsi) (o .intervals) (o .nfm) (o .rpm) (o .A1) (o .S1) [] [] [] [] []) p q k) ≡ lay (givenBy o)
   unfolding begun
   laid f g h = rw (f, g, h)
 
@@ -106,6 +105,6 @@ module _ {b : List ℕ} {o : Order} where
   unfolding openNumber openAfter
   says-late h e l = record { answered = rw (h, e, l); left = rw (h, e, l) }
 
-  pub says-new : eqb (length b) SIZE ≡ true → (settings o && files o) ≡ true → leb (o .time) highestTime ≡ true → OpenSays b o (answer 0 0) (lay (fresh (givenBy o)))
+  pub says-new : eqb (length b) SIZE ≡ true → (settings o && files o) ≡ true → leb (o .time) highestTime ≡ true → OpenSays b o (answer 0 0) (lay (givenBy o))
   unfolding openNumber openAfter
   says-new h e l = record { answered = rw (h, e, l); left = rw (h, e, l) }

@@ -6,7 +6,7 @@ use native.Mathlib.Omega.{arith}
 use lib.Dec.{lit<, lit≤}
 use lib.ListN.{length, getD, set, replicate, length-replicate, replicate-append-replicate}
 use lib.Seq.{take-all}
-use Rattle.rules.specs.Rules.{fresh}
+use Rattle.rules.specs.State.{fresh}
 use Rattle.buffer.specs.Places.{SIZE, LETTERS, INTERVALS, PARAMETERS, HOUSE, RATES, COUNTERS}
 use Rattle.buffer.specs.Segments.{concat, off, pad, paste}
 use Rattle.buffer.specs.Layout.{letters, segments, spread, lay}
@@ -67,7 +67,7 @@ module _ (o : Order) (few : length (o .intervals) ≤ 10) where
       → b2 ≡ paste b1 INTERVALS (pad 10 (o .intervals))
       → b3 ≡ paste (paste (paste b2 PARAMETERS p) HOUSE (o .A1 ∷ o .S1 ∷ [])) RATES r
       → b4 ≡ paste b3 COUNTERS k
-      → b4 ≡ lay (fresh (begun o p r k))
+      → b4 ≡ lay (begun o p r k)
   unfolding concat spread segments begun fresh
   filled p r k pl rl kl e0 e1 e2 e3 e4 =
       let il = length-pad 10 (o .intervals) few in

@@ -11,8 +11,7 @@ use lib.Seq.{getD-take}
 use borrow.Author.Tests.{leb-true, eq-eqb}
 use Rattle.rules.specs.declared.Answer.{Answer}
 use Rattle.rules.specs.Tables.{highestTime}
-use Rattle.rules.specs.Rules.{fresh, idle}
-use Rattle.rules.specs.Demand3.{Bytes}
+use Rattle.rules.specs.State.{fresh, idle}
 use Rattle.buffer.specs.Places.{SIZE}
 use Rattle.rules.proofs.Checks.{and-right}
 use Rattle.buffer.specs.Segments.{off}
@@ -105,19 +104,12 @@ module _ (b : List ℕ) (o : Order) (accepted : openNumber b o ≡ 0) (t : Typed
   unfolding atMost
   counters-low = part-low 32 6 (o .counters) (replicate 32 0) (t .counters) refl
 
-  pub opened-bytes : Bytes (givenBy o .opening)
-  unfolding begun
-  opened-bytes =
-      let f = passed b o accepted .fit in
-      let p = at-most 255 (sixParameters (o .parameters) (o .ownParameters)) six-low in
-      record { N1 = p 0; F1 = p 2; F2 = p 3; F3 = p 4; F4 = p 5; A1 = f .A1; S1 = f .S1 }
-
-  pub opened-valid : valid (fresh (givenBy o)) ≡ true
+  pub opened-valid : valid (givenBy o) ≡ true
   unfolding fresh begun
   opened-valid =
       let h = passed b o accepted in
       let f = h .fit in
-      facts-valid (fresh (givenBy o))
+      facts-valid (givenBy o)
       (record {
         sane = record {
           opening = record {
@@ -142,7 +134,7 @@ module _ (b : List ℕ) (o : Order) (accepted : openNumber b o ≡ 0) (t : Typed
   unfolding openAfter spread segments fresh begun
   opened-rules r x says =
       let f = passed b o accepted .fit in
-      let v = fresh (givenBy o) in
+      let v = givenBy o in
       let is : x ≡ lay v = says .left ∙ rw (eq-eqb (openNumber b o) 0 accepted) in
       let at : (k i : ℕ) → i < getD widths k 0 → getD x (off widths k + i) 0 ≡ getD (getD (segments (v .facts) (rows (v .lists))) k []) i 0
       = λ k i h. ap (λ (y : List ℕ). getD y (off widths k + i) 0) is ∙ get (v .facts) (rows (v .lists)) (shaped-valid v opened-valid) k i h in

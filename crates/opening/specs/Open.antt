@@ -6,9 +6,9 @@ use Prim.Native.Nat.{ℕ, _+_, _<_}
 use lib.Dec.{leb, eqb}
 use lib.ListN.{length, getD, replicate}
 use Rattle.rules.specs.declared.Answer.{Answer}
-use Rattle.rules.specs.Calls.{Given, answer}
+use Rattle.rules.specs.Calls.{answer}
 use Rattle.rules.specs.Tables.{highestTime, scheduled}
-use Rattle.rules.specs.Rules.{fresh}
+use Rattle.rules.specs.State.{State, fresh}
 use Rattle.buffer.specs.Places.{SIZE, PARAMETERS, RATES, COUNTERS}
 use Rattle.buffer.specs.Layout.{lay}
 use Rattle.buffer.specs.Good.{bytes}
@@ -55,31 +55,29 @@ unfoldable pub openNumber : List ℕ → Order → ℕ
 openNumber b o = cond (eqb (length b) SIZE) (cond (settings o && files o) (cond (leb (o .time) highestTime) 0 3) 2) 1
 
 -- what a record begins with, of an order and the bytes of the files that rule: six parameters, three leak rates, six counters
-unfoldable pub begun : Order → (p r k : List ℕ) → Given
-begun o p r k = record {
-  opening = record {
-    opened = o .time;
-    imsi = o .imsi;
-    rpm = o .rpm;
-    N1 = getD p 0 0;
-    T1 = getD p 1 0;
-    F1 = getD p 2 0;
-    F2 = getD p 3 0;
-    F3 = getD p 4 0;
-    F4 = getD p 5 0;
-    A1 = o .A1;
-    S1 = o .S1;
-    LR1 = getD r 0 0;
-    LR2 = getD r 1 0;
-    LR3 = getD r 2 0;
-  };
-  nfm = o .nfm;
-  intervals = o .intervals;
-  counters = k;
-}
+unfoldable pub begun : Order → (p r k : List ℕ) → State
+begun o p r k =
+    fresh
+    (record {
+      opened = o .time;
+      imsi = o .imsi;
+      rpm = o .rpm;
+      N1 = getD p 0 0;
+      T1 = getD p 1 0;
+      F1 = getD p 2 0;
+      F2 = getD p 3 0;
+      F3 = getD p 4 0;
+      F4 = getD p 5 0;
+      A1 = o .A1;
+      S1 = o .S1;
+      LR1 = getD r 0 0;
+      LR2 = getD r 1 0;
+      LR3 = getD r 2 0;
+    })
+    (o .nfm) (o .intervals) k
 
 -- what the record since this opening begins with
-abbrev pub givenBy : Order → Given
+abbrev pub givenBy : Order → State
 givenBy o = begun o (sixParameters (o .parameters) (o .ownParameters)) (threeRates (o .rates) (o .ownRates)) (sixCounters (o .counters))
 
 abbrev pub openAnswer : List ℕ → Order → Answer
@@ -87,7 +85,7 @@ openAnswer b o = answer (openNumber b o) 0
 
 -- a refused opening changes nothing; any other lays out a new state
 unfoldable pub openAfter : List ℕ → Order → List ℕ
-openAfter b o = cond (eqb (openNumber b o) 0) (lay (fresh (givenBy o))) b
+openAfter b o = cond (eqb (openNumber b o) 0) (lay (givenBy o)) b
 
 -- opening the buffer b by o gives r and leaves x
 pub record OpenSays (b : List ℕ) (o : Order) (r : Answer) (x : List ℕ) : Type 0 where

@@ -7,7 +7,6 @@ ghost use mathlib.Core.List.{[], _∷_};
 ghost use Prim.Native.Nat.{_+_, _/_, _%_, _^_, _≤_};
 ghost use lib.ListN.{length, getD, replicate};
 ghost use Rattle.rules.specs.Tables.{scheduled};
-ghost use Rattle.rules.specs.Rules.{fresh};
 ghost use Rattle.buffer.specs.Places.{SIZE, LETTERS, INTERVALS, PARAMETERS, HOUSE, RATES};
 ghost use Rattle.buffer.specs.Segments.{pad, paste};
 ghost use Rattle.buffer.specs.Layout.{letters, lay};
@@ -133,7 +132,7 @@ fn fill(
     requires { ⌜ imsi ≤ 999999999999999 ⌝ }
     requires { ⌜ length (now l) ≤ 10 ⌝ }
     requires { ⌜ (length (now parameters) ≡ 6) × ((length (now leaks) ≡ 3) × (length (now counters) ≡ 6)) ⌝ }
-    ensures { λ _. ⌜ now (s .exit) ≡ lay (fresh (begun (order time imsi (now (l .entry)) nfm rpm a1 s1 [] [] [] [] []) (now (parameters .entry)) (now (leaks .entry)) (now (counters .entry)))) ⌝ }
+    ensures { λ _. ⌜ now (s .exit) ≡ lay (begun (order time imsi (now (l .entry)) nfm rpm a1 s1 [] [] [] [] []) (now (parameters .entry)) (now (leaks .entry)) (now (counters .entry))) ⌝ }
 {
     blank(s);
     head(s, time, imsi, nfm, rpm, l.len() as u32);

@@ -1,18 +1,23 @@
 -- Outcomes on a good buffer: their answers, and what they leave. Assumes nothing.
 use mathlib.Core.Path.{_≡_, refl, sym, ap, _∙_}
-use mathlib.Core.Bool.{Bool, true, false, cond, not, _&&_, _||_, or-false}
+use mathlib.Core.Bool.{Bool, true, false, cond, not, _||_}
 use mathlib.Core.List.{List, [], _∷_}
 use Prim.Native.Nat.{ℕ, _+_, _-_, _*_, _%_, _^_, _≤_, _<_, min}
 use native.Mathlib.Omega.{arith}
 use lib.Dec.{lit<, leb, eqb}
 use lib.ListN.{length, getD, set}
-use borrow.Author.Tests.{leb-true, le-leb, lt-leb, ne-eqb}
+use borrow.Author.Tests.{leb-true, ne-eqb}
 use Rattle.outcome.specs.declared.Backoff.{Backoff}
 use Rattle.mixing.specs.Mixing.{mixed, drawn}
 use Rattle.rules.specs.declared.Answer.{Answer}
-use Rattle.rules.specs.Calls.{Event, granted, silent, rejected, dropped, timed, answer}
-use Rattle.rules.specs.Tables.{highestTime, Kind, among, action, moodOn, oneMore, interval, waitFor}
-use Rattle.rules.specs.Rules.{Facts, Services, check, inRange, timely, stands, refusal, wait, failed, verdict, refused, moved, withServices, onGranted, onFailed, acted, changed, onto, adds}
+use Rattle.rules.specs.Calls.{timed, answer}
+use Rattle.rules.specs.declared.Event.{Event}
+use Rattle.rules.specs.declared.Event.the-variants.{Outcome as outcome, Dropped as dropped}
+use Rattle.rules.specs.declared.Outcome.the-variants.{Granted as granted, Silent as silent, Rejected as rejected}
+use Rattle.rules.specs.Tables.{highestTime, Kind, among, refusals, action, moodOn, oneMore, interval, waitFor}
+use Rattle.rules.specs.Rules.{check, inRange, timely, stands, refusal, wait, failed, verdict, refused, moved, onGranted, onFailed, onOutcome, acted, changed, enters, adds}
+use Rattle.rules.specs.State.{Facts, Services, withServices}
+use Rattle.rules.proofs.Among.{not-among, tests-among}
 use Rattle.rules.proofs.Checks.{in-range, in-time, failed-wait}
 use Rattle.buffer.specs.Places.{QUOTIENT, REMAINDER, COUNT, INTERVALS, FAILURES, STANDING, MOOD}
 use Rattle.buffer.specs.Segments.{part}
@@ -144,7 +149,7 @@ module _ (b : List ℕ) (g : good b ≡ true) (t i : ℕ) (h : i < 4) where
 
 -- ---- The actions
 
-acts-low : (o x y z w : Bool) → 6 ≤ cond o 20 (cond x 20 (cond y 21 (cond z (cond w 22 20) 23)))
+acts-low : (o x y z w : Bool) → 20 ≤ cond o 20 (cond x 20 (cond y 21 (cond z (cond w 22 20) 23)))
 acts-low true x y z w = omega arith
 acts-low false true y z w = omega arith
 acts-low false false true z w = omega arith
@@ -156,7 +161,7 @@ acts-low false false false false w = omega arith
 abbrev backs-off : ℕ → Bool
 backs-off k = among k (8 ∷ 26 ∷ 27 ∷ 29 ∷ 30 ∷ 31 ∷ 32 ∷ 33 ∷ 35 ∷ [])
 
-action-low : (i cause second : ℕ) → 6 ≤ action i cause second
+action-low : (i cause second : ℕ) → 20 ≤ action i cause second
 unfolding action
 action-low i cause second = acts-low (not (eqb i 2)) (backs-off cause) (eqb cause 28) (eqb cause 34) (eqb second 1)
 
@@ -194,27 +199,19 @@ module _ (n cause second : ℕ) (e : n ≡ action 2 cause 1) where
 
 -- ---- The moods
 
-in-row : (a b c d e f : Bool) → (((((a || b) || c) || d) || e) || f) ≡ (a || (b || (c || (d || (e || (f || false))))))
-in-row true b c d e f = refl
-in-row false true c d e f = refl
-in-row false false true d e f = refl
-in-row false false false true e f = refl
-in-row false false false false true f = refl
-in-row false false false false false f = sym (or-false f)
-
 pub moods : (k : ℕ) {x : Bool} → (((((eqb k 8 || eqb k 27) || eqb k 28) || eqb k 29) || eqb k 32) || eqb k 33) ≡ x → cond x 2 3 ≡ moodOn k
 unfolding moodOn
-moods k e = ap (λ (x : Bool). cond {A = ℕ} x 2 3) (sym e ∙ in-row (eqb k 8) (eqb k 27) (eqb k 28) (eqb k 29) (eqb k 32) (eqb k 33))
+moods k e = ap (λ (x : Bool). cond {A = ℕ} x 2 3) (sym e ∙ tests-among (eqb k 8) k (27 ∷ 28 ∷ 29 ∷ 32 ∷ 33 ∷ []))
 
 -- a failure is answered, not refused
-failed-low : (f : Facts) (i n : ℕ) → 6 ≤ n → refused (failed f i n) ≡ false
+failed-low : (f : Facts) (i n : ℕ) → 20 ≤ n → refused (failed f i n) ≡ false
 unfolding failed
 failed-low f i n h = go (eqb n 20) (eqb (f .mode .nfm) 1)
   where
     go : (x y : Bool) → refused (cond x (cond y (answer 20 (wait f i)) (answer 23 0)) (answer n 0)) ≡ false
     go true true = refl
     go true false = refl
-    go false y = rw (le-leb 1 n (omega arith), lt-leb n 5 (omega arith))
+    go false y = not-among n refusals (omega arith)
 
 -- ---- The calls
 
@@ -243,34 +240,30 @@ module _ (b : List ℕ) (t : ℕ) (e : Event) (n : ℕ) (d : n ≡ refusal (fact
       says-good b g (timed t e) a rules (p ∙ sym (moves b g (timed t e) a rules r none))
 
 module _ (b : List ℕ) (g : good b ≡ true) (t n : ℕ) (z : n ≡ 0) where
-  pub says-granted : (i : ℕ) → n ≡ refusal (factsOf b) (timed t (granted i)) → {x : List ℕ} → x ≡ served b t (onGranted i (factsOf b .services))
-      → Says b (timed t (granted i)) (answer 0 0) x
-  unfolding verdict moved acted adds onto
-  says-granted i d p = says-event b t (granted i) n d z g (answer 0 0) refl refl (λ k. refl) p
+  pub says-granted : (i : ℕ) → n ≡ refusal (factsOf b) (timed t (outcome i granted)) → {x : List ℕ} → x ≡ served b t (onGranted i (factsOf b .services))
+      → Says b (timed t (outcome i granted)) (answer 0 0) x
+  unfolding verdict moved acted onOutcome adds enters
+  says-granted i d p = says-event b t (outcome i granted) n d z g (answer 0 0) refl refl (λ k. refl) p
 
   pub says-dropped : n ≡ refusal (factsOf b) (timed t dropped) → {x y : List ℕ} → x ≡ spread (moved t (factsOf b)) (rows (view b .lists))
       → y ≡ set x (STANDING + 2) 0 → Says b (timed t dropped) (answer 0 0) y
-  unfolding verdict moved acted adds onto
+  unfolding verdict moved acted onOutcome adds enters
   says-dropped d p q =
       says-event b t dropped n d z g (answer 0 0) refl refl (λ k. refl)
       (laid-as (laid-standing (laid-moved b g t p) 2 0 (lit< tt)) q .is)
 
-  no-permit : (y : Bool) → cond (y && false) (t ∷ []) [] ≡ []
-  no-permit true = refl
-  no-permit false = refl
-
-  pub says-silent : (i : ℕ) → n ≡ refusal (factsOf b) (timed t (silent i)) → {a : Answer} {x : List ℕ} → a ≡ failed (factsOf b) i 20
-      → x ≡ served b t (onFailed t i a 1 (factsOf b .services)) → Says b (timed t (silent i)) a x
-  unfolding verdict moved acted adds onto
+  pub says-silent : (i : ℕ) → n ≡ refusal (factsOf b) (timed t (outcome i silent)) → {a : Answer} {x : List ℕ} → a ≡ failed (factsOf b) i 20
+      → x ≡ served b t (onFailed t i a 1 (factsOf b .services)) → Says b (timed t (outcome i silent)) a x
+  unfolding verdict moved acted onOutcome adds enters
   says-silent i d {a} e p =
-      says-event b t (silent i) n d z g a (sym e) (rw e (failed-low (factsOf b) i 20 (omega arith))) (λ k. no-permit (eqb (a .number) 0)) p
+      says-event b t (outcome i silent) n d z g a (sym e) (rw e (failed-low (factsOf b) i 20 (omega arith))) (λ k. refl) p
 
-  pub says-rejected : (i cause second : ℕ) → n ≡ refusal (factsOf b) (timed t (rejected i cause second)) → {k m : ℕ} {a : Answer} {x : List ℕ}
+  pub says-rejected : (i cause second : ℕ) → n ≡ refusal (factsOf b) (timed t (outcome i (rejected cause second))) → {k m : ℕ} {a : Answer} {x : List ℕ}
       → k ≡ action i cause second → m ≡ moodOn cause → a ≡ failed (factsOf b) i k → x ≡ served b t (onFailed t i a m (factsOf b .services))
-      → Says b (timed t (rejected i cause second)) a x
-  unfolding verdict moved acted adds onto
+      → Says b (timed t (outcome i (rejected cause second))) a x
+  unfolding verdict moved acted onOutcome adds enters
   says-rejected i cause second d {a = a} u v e p =
       let is : a ≡ failed (factsOf b) i (action i cause second) = e ∙ ap (failed (factsOf b) i) u in
       let low = failed-low (factsOf b) i (action i cause second) (action-low i cause second) in
-      says-event b t (rejected i cause second) n d z g a (sym is) (rw is low) (λ k. no-permit (eqb (a .number) 0))
+      says-event b t (outcome i (rejected cause second)) n d z g a (sym is) (rw is low) (λ k. refl)
       (p ∙ ap (λ (m : ℕ). served b t (onFailed t i a m (factsOf b .services))) v)

@@ -6,7 +6,8 @@ use lib.Dec.{eqb}
 use lib.ListN.{getD, set}
 use Rattle.outcome.specs.declared.Backoff.{Backoff}
 use Rattle.rules.specs.Tables.{oneMore}
-use Rattle.rules.specs.Rules.{Facts, Services, check, timely, standing, moved, withServices}
+use Rattle.rules.specs.Rules.{check, timely, standing, moved}
+use Rattle.rules.specs.State.{Facts, Services, withServices}
 use Rattle.buffer.specs.Places.{FAILURES, ENDS, STANDING, MOOD}
 use Rattle.buffer.specs.Layout.{spread, rows, factsOf, view}
 

@@ -1,14 +1,16 @@
-// What became of a request: granted, rejected with a cause, or silent, when no answer came; and service 2 dropped.
-//
-// Each of the four calls has an inner one, `.._in`, that does the same on a buffer that is known to be good.
+// What became of a request, on a buffer that is known to be good: granted, rejected with a cause, or silent, when no answer came; and service 2
+// dropped.
 use buffer::fields;
 use rules::Answer;
+use rules::Outcome;
 ghost use mathlib.Core.Path.{_≡_};
 ghost use mathlib.Core.Bool.{true, cond};
 ghost use Prim.Native.Nat.{_+_, _%_, _<_, _≤_};
 ghost use lib.ListN.{length};
 ghost use lib.Dec.{eqb};
-ghost use Rattle.rules.specs.Calls.{timed, granted, silent, rejected, dropped};
+ghost use Rattle.rules.specs.Calls.{timed};
+ghost use Rattle.rules.specs.declared.Event.the-variants.{Outcome as outcome, Dropped as dropped};
+ghost use Rattle.rules.specs.declared.Outcome.the-variants.{Granted as granted, Silent as silent, Rejected as rejected};
 ghost use Rattle.rules.specs.Tables.{highestTime, action, moodOn, oneMore, interval};
 ghost use Rattle.rules.specs.Rules.{standing, wait, failed, onGranted, onFailed};
 ghost use Rattle.buffer.specs.Places.{SIZE};
@@ -335,7 +337,7 @@ fn fail(s: &mut [u32], t: u32, i: usize, n: u32, m: u32) -> Answer
 pub fn granted_in(s: &mut [u32], t: u32, service: u32) -> Answer
     requires { ⌜ length (now s) ≡ SIZE ⌝ }
     requires { ⌜ good (now s) ≡ true ⌝ }
-    ensures { λ r. ⌜ Says (now (s .entry)) (timed t (granted service)) r (now (s .exit)) ⌝ }
+    ensures { λ r. ⌜ Says (now (s .entry)) (timed t (outcome service granted)) r (now (s .exit)) ⌝ }
 {
     let n = checks(s, t, service <= 3, service);
     if n != 0 {
@@ -355,7 +357,7 @@ pub fn granted_in(s: &mut [u32], t: u32, service: u32) -> Answer
 pub fn silent_in(s: &mut [u32], t: u32, service: u32) -> Answer
     requires { ⌜ length (now s) ≡ SIZE ⌝ }
     requires { ⌜ good (now s) ≡ true ⌝ }
-    ensures { λ r. ⌜ Says (now (s .entry)) (timed t (silent service)) r (now (s .exit)) ⌝ }
+    ensures { λ r. ⌜ Says (now (s .entry)) (timed t (outcome service silent)) r (now (s .exit)) ⌝ }
 {
     let n = checks(s, t, service <= 3, service);
     if n != 0 {
@@ -371,7 +373,7 @@ pub fn silent_in(s: &mut [u32], t: u32, service: u32) -> Answer
 pub fn rejected_in(s: &mut [u32], t: u32, service: u32, cause: u32, second: u32) -> Answer
     requires { ⌜ length (now s) ≡ SIZE ⌝ }
     requires { ⌜ good (now s) ≡ true ⌝ }
-    ensures { λ r. ⌜ Says (now (s .entry)) (timed t (rejected service cause second)) r (now (s .exit)) ⌝ }
+    ensures { λ r. ⌜ Says (now (s .entry)) (timed t (outcome service (rejected cause second))) r (now (s .exit)) ⌝ }
 {
     let n = checks(
         s,
@@ -415,54 +417,15 @@ pub fn dropped_in(s: &mut [u32], t: u32) -> Answer
     }
 }
 
-// A service is granted.
-pub fn granted(s: &mut [u32], t: u32, service: u32) -> Answer
-    ensures { λ r. ⌜ Says (now (s .entry)) (timed t (granted service)) r (now (s .exit)) ⌝ }
+// An outcome of a service, on a good buffer.
+pub fn outcome_in(s: &mut [u32], t: u32, service: u32, o: Outcome) -> Answer
+    requires { ⌜ length (now s) ≡ SIZE ⌝ }
+    requires { ⌜ good (now s) ≡ true ⌝ }
+    ensures { λ r. ⌜ Says (now (s .entry)) (timed t (outcome service o)) r (now (s .exit)) ⌝ }
 {
-    if !buffer::is_good(s) {
-        return Answer {
-            number: 1,
-            second: 0,
-        };
+    match o {
+        Outcome::Granted => granted_in(s, t, service),
+        Outcome::Silent => silent_in(s, t, service),
+        Outcome::Rejected(cause, second) => rejected_in(s, t, service, cause, second),
     }
-    granted_in(s, t, service)
-}
-
-// A service has had no answer.
-pub fn silent(s: &mut [u32], t: u32, service: u32) -> Answer
-    ensures { λ r. ⌜ Says (now (s .entry)) (timed t (silent service)) r (now (s .exit)) ⌝ }
-{
-    if !buffer::is_good(s) {
-        return Answer {
-            number: 1,
-            second: 0,
-        };
-    }
-    silent_in(s, t, service)
-}
-
-// A service is rejected with a cause; second is 1 where another network is there.
-pub fn rejected(s: &mut [u32], t: u32, service: u32, cause: u32, second: u32) -> Answer
-    ensures { λ r. ⌜ Says (now (s .entry)) (timed t (rejected service cause second)) r (now (s .exit)) ⌝ }
-{
-    if !buffer::is_good(s) {
-        return Answer {
-            number: 1,
-            second: 0,
-        };
-    }
-    rejected_in(s, t, service, cause, second)
-}
-
-// Service 2 is dropped.
-pub fn dropped(s: &mut [u32], t: u32) -> Answer
-    ensures { λ r. ⌜ Says (now (s .entry)) (timed t dropped) r (now (s .exit)) ⌝ }
-{
-    if !buffer::is_good(s) {
-        return Answer {
-            number: 1,
-            second: 0,
-        };
-    }
-    dropped_in(s, t)
 }

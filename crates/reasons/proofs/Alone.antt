@@ -10,15 +10,17 @@ use lib.Dec.{lit<, lit≤, leb, ltb, eqb}
 use lib.Count.{ones, trailingZeros}
 use lib.ListN.{length, getD, List·getD-map}
 use borrow.Author.Tests.{le-ltb, ltb-true, ltb-false, eq-eqb, ne-eqb}
-use Rattle.rules.specs.Calls.{timed, ask, answer}
+use Rattle.rules.specs.Calls.{timed, answer}
+use Rattle.rules.specs.declared.Event.the-variants.{Ask as ask}
 use Rattle.rules.specs.declared.Answer.{Answer}
-use Rattle.rules.specs.Tables.{attach, inHour, freeIn}
-use Rattle.rules.specs.Rules.{State, Limit, limit, limits, blocks, blockedBy, firstBlock, stands, refusal, runs, verdict, ruling, idle}
+use Rattle.rules.specs.Tables.{attach, inHour, freeIn, rules}
+use Rattle.rules.specs.Rules.{Limit, limit, limits, blocks, blockedBy, firstBlock, stands, refusal, runs, verdict, ruling}
+use Rattle.rules.specs.State.{State, idle}
 use Rattle.rules.specs.Demand3.{Each}
 use Rattle.rules.proofs.Demand3.{first-is as first-number-is}
 use Rattle.rules.proofs.Again.{Ordered, ordered, each-other}
 use Rattle.request.specs.Request.{limitAt, waiting}
-use Rattle.reasons.specs.Why.{alone, blocked, against, rules, stand, weigh, howMany, leaving, times, refusedBy, reasons}
+use Rattle.reasons.specs.Why.{alone, blocked, against, stand, weigh, howMany, leaving, times, refusedBy, reasons}
 use Rattle.reasons.proofs.Bits.{ones-weigh, firstNamed, first-weigh}
 
 -- ---- The limits, where one alone is left

@@ -9,9 +9,11 @@ use native.Mathlib.Numerals.{add-one}
 use lib.Dec.{lit≤, ltb, eqb}
 use lib.ListN.{getD, List·getD-map}
 use Rattle.rules.specs.declared.Answer.{Answer}
-use Rattle.rules.specs.Calls.{timed, ask, answer}
-use Rattle.rules.specs.Tables.{highestTime, Kind, attach}
-use Rattle.rules.specs.Rules.{State, Limit, limit, limits, blocks, refusal, ruling}
+use Rattle.rules.specs.Calls.{timed, answer}
+use Rattle.rules.specs.declared.Event.the-variants.{Ask as ask}
+use Rattle.rules.specs.Tables.{highestTime, Kind, attach, rules}
+use Rattle.rules.specs.Rules.{Limit, limit, limits, blocks, refusal, ruling}
+use Rattle.rules.specs.State.{State}
 use Rattle.rules.proofs.Checks.{in-range, on-time, fits, passes}
 use Rattle.rules.specs.Leaves.{Leaves}
 use Rattle.rules.proofs.Newest.{Rising, rising-more, ascending-rises}
@@ -24,7 +26,7 @@ use Rattle.buffer.proofs.Sane.{valid-facts}
 use Rattle.clock.specs.Call.{callAnswer}
 use Rattle.request.specs.Request.{limitAt}
 use Rattle.reasons.specs.declared.said.Why.{Why}
-use Rattle.reasons.specs.Why.{alone, against, rules, bit, bitAt, stand, weigh, leaving, times, refusedBy, reasons, whyOf, RoomSays}
+use Rattle.reasons.specs.Why.{alone, against, bit, bitAt, stand, weigh, leaving, times, refusedBy, reasons, whyOf, RoomSays}
 use Rattle.reasons.specs.Meaning.{Means}
 use Rattle.reasons.proofs.Bits.{ones-weigh, first-weigh, bit-weigh, weigh-lt}
 use Rattle.reasons.proofs.Alone.{found, each-alone, row-alone, row-second, gate-second, stand-is, times-are, first-is}

@@ -5,8 +5,10 @@ use mathlib.Core.List.{List, [], _∷_, map}
 use Prim.Native.Nat.{ℕ, _≤_}
 use lib.Dec.{eqb}
 use borrow.Author.Tests.{eqb-true}
-use Rattle.rules.specs.Calls.{timed, ask}
-use Rattle.rules.specs.Rules.{State, Limit, limits, blocks, refusal, runs, ruling, short}
+use Rattle.rules.specs.Calls.{timed}
+use Rattle.rules.specs.declared.Event.the-variants.{Ask as ask}
+use Rattle.rules.specs.Rules.{Limit, limits, blocks, refusal, runs, ruling, short}
+use Rattle.rules.specs.State.{State}
 use Rattle.rules.proofs.Checks.{on-time}
 use Rattle.rules.proofs.Newest.{from-newest-same, Sound, Small, limits-small, blocks-same, ruling-same}
 use Rattle.reasons.specs.declared.said.Why.{Why}

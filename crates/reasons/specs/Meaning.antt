@@ -7,13 +7,15 @@ use Prim.Native.Nat.{ℕ, _+_, _-_, _≤_, _<_}
 use lib.Dec.{ltb}
 use lib.ListN.{getD}
 use lib.Count.{ones, trailingZeros}
-use Rattle.rules.specs.Calls.{timed, ask}
-use Rattle.rules.specs.Tables.{highestTime, fromNewest}
+use Rattle.rules.specs.Calls.{timed}
+use Rattle.rules.specs.declared.Event.the-variants.{Ask as ask}
+use Rattle.rules.specs.Tables.{highestTime, fromNewest, rules}
 use Rattle.rules.specs.Leaves.{Leaves}
-use Rattle.rules.specs.Rules.{State, ruling}
+use Rattle.rules.specs.Rules.{ruling}
+use Rattle.rules.specs.State.{State}
 use Rattle.request.specs.Request.{limitAt}
 use Rattle.reasons.specs.declared.said.Why.{Why}
-use Rattle.reasons.specs.Why.{alone, against, rules, bit, bitAt}
+use Rattle.reasons.specs.Why.{alone, against, bit, bitAt}
 
 pub record Means (w : State) (t q : ℕ) (r : Why) : Type 0 where
   -- "a bit is set exactly when that rule, taken alone, would block"

@@ -1,14 +1,16 @@
 -- Why the gate says no: which rules stand against a request, each taken alone, and which permit has to leave the hour. Assumes nothing.
 use mathlib.Core.Path.{_≡_}
-use mathlib.Core.Bool.{Bool, cond, _&&_}
+use mathlib.Core.Bool.{Bool, cond}
 use mathlib.Core.List.{List, [], _∷_, map}
 use Prim.Native.Nat.{ℕ, zero, suc, _+_, _*_, _/_, _%_}
-use lib.Dec.{leb, eqb}
+use lib.Dec.{eqb}
 use lib.ListN.{length}
 use Rattle.rules.specs.declared.Answer.{Answer}
-use Rattle.rules.specs.Calls.{timed, ask, answer}
-use Rattle.rules.specs.Tables.{fromNewest}
-use Rattle.rules.specs.Rules.{State, Limit, limits, refusal, ruling, idle}
+use Rattle.rules.specs.Calls.{timed, answer}
+use Rattle.rules.specs.declared.Event.the-variants.{Ask as ask}
+use Rattle.rules.specs.Tables.{fromNewest, among, rules}
+use Rattle.rules.specs.Rules.{Limit, limits, refusal, ruling}
+use Rattle.rules.specs.State.{State, withOpening, withServices, withBackoffs, idle}
 use Rattle.buffer.specs.Layout.{view}
 use Rattle.buffer.specs.Good.{good}
 use Rattle.reasons.specs.declared.said.Why.{Why}
@@ -22,34 +24,32 @@ alone n w =
     let o = f .opening in
     let v = f .services in
     record {
-      facts = record {
-        opening = record {
-          opened = o .opened;
-          imsi = o .imsi;
-          rpm = o .rpm;
-          N1 = cond (eqb n 11) (o .N1) 0;
-          T1 = o .T1;
-          F1 = cond (eqb n 13) (o .F1) 0;
-          F2 = cond (eqb n 14) (o .F2) 0;
-          F3 = cond (eqb n 15) (o .F3) 0;
-          F4 = cond (eqb n 16) (o .F4) 0;
-          A1 = cond (eqb n 17) (o .A1) 0;
-          S1 = cond (eqb n 18) (o .S1) 0;
-          LR1 = o .LR1;
-          LR2 = o .LR2;
-          LR3 = o .LR3;
-        };
-        mode = f .mode;
-        last = f .last;
-        counters = f .counters;
-        services = record { failures = v .failures; ends = cond (eqb n 10) (v .ends) idle; standing = v .standing; mood = v .mood };
-      };
+      facts =
+          withServices
+          (withOpening f
+          (record {
+            opened = o .opened;
+            imsi = o .imsi;
+            rpm = o .rpm;
+            N1 = cond (eqb n 11) (o .N1) 0;
+            T1 = o .T1;
+            F1 = cond (eqb n 13) (o .F1) 0;
+            F2 = cond (eqb n 14) (o .F2) 0;
+            F3 = cond (eqb n 15) (o .F3) 0;
+            F4 = cond (eqb n 16) (o .F4) 0;
+            A1 = cond (eqb n 17) (o .A1) 0;
+            S1 = cond (eqb n 18) (o .S1) 0;
+            LR1 = o .LR1;
+            LR2 = o .LR2;
+            LR3 = o .LR3;
+          }))
+          (withBackoffs v (v .failures) (cond (eqb n 10) (v .ends) idle));
       lists = w .lists;
     }
 
--- numbers 10 to 18 are blocks
+-- the number of a rule is a block
 abbrev pub blocked : Answer → Bool
-blocked a = leb 10 (a .number) && leb (a .number) 18
+blocked a = among (a .number) rules
 
 -- rule n, taken alone, would block request q at t
 unfoldable pub against : State → ℕ → ℕ → ℕ → Bool
@@ -58,9 +58,6 @@ against w t q n = blocked (ruling (alone n w) (timed t (ask q)))
 -- ---- All of them
 
 -- in document 01's order
-abbrev pub rules : List ℕ
-rules = 10 ∷ 11 ∷ 13 ∷ 14 ∷ 15 ∷ 16 ∷ 17 ∷ 18 ∷ []
-
 abbrev pub stand : State → ℕ → ℕ → List Bool
 stand w t q = map (against w t q) rules
 

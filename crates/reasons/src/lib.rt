@@ -10,13 +10,15 @@ ghost use mathlib.Core.List.{[], _∷_};
 ghost use Prim.Native.Nat.{_+_, _*_, _≤_, _<_};
 ghost use lib.ListN.{length, getD};
 ghost use lib.Count.{trailingZeros};
-ghost use Rattle.rules.specs.Calls.{timed, ask};
+ghost use Rattle.rules.specs.Calls.{timed};
+ghost use Rattle.rules.specs.declared.Event.the-variants.{Ask as ask};
+ghost use Rattle.rules.specs.Tables.{rules};
 ghost use Rattle.rules.specs.Rules.{blocks, refusal};
 ghost use Rattle.buffer.specs.Places.{SIZE};
 ghost use Rattle.buffer.specs.Layout.{view, factsOf};
 ghost use Rattle.buffer.specs.Good.{good};
 ghost use Rattle.request.specs.Request.{limitAt};
-ghost use Rattle.reasons.specs.Why.{rules, bit, weigh, leaving, refusedBy, reasons, whyOf, RoomSays};
+ghost use Rattle.reasons.specs.Why.{bit, weigh, leaving, refusedBy, reasons, whyOf, RoomSays};
 
 // Of one limit: whether it stands against the request, and the time that has to leave the hour, or 0.
 struct Found {

@@ -1,24 +1,29 @@
 -- What the parts of a request do to a buffer that is laid out. Assumes nothing.
 use mathlib.Core.Path.{_≡_, refl, sym, subst}
-use mathlib.Core.Bool.{Bool, true, false, cond, _&&_}
+use mathlib.Core.Bool.{Bool, true, false, cond}
 use mathlib.Core.List.{List, [], _∷_, _++_, append-nil}
 use Prim.Native.Nat.{ℕ, zero, suc, _+_, _-_, min, _≤_, _<_}
 use native.Mathlib.Omega.{arith}
 use lib.Dec.{lit<, leb, eqb}
 use lib.ListN.{length, getD, set}
 use borrow.Author.Tests.{leb-true}
-use Rattle.rules.specs.Tables.{Kind, attach, activation, pdp, sms, reset, goes}
-use Rattle.rules.specs.Rules.{Facts, counted, idle, asked, newest}
+use Rattle.rules.specs.Tables.{Kind, attach, activation, pdp, sms, reset, goes, among, counting}
+use Rattle.rules.specs.Rules.{counted, asked, newest}
+use Rattle.rules.specs.State.{Facts, withCounters, withServices, withStanding, idle}
 use Rattle.buffer.specs.Places.{STANDING, COUNTERS}
 use Rattle.buffer.specs.Layout.{rows}
 use Rattle.buffer.specs.Lists.{permitted}
-use Rattle.rules.proofs.Checks.{and-left, and-right}
+use Rattle.rules.proofs.Among.{among-all}
 use Rattle.buffer.proofs.Keep.{newest-all}
-use Rattle.buffer.proofs.Laid.{all-four, Laid, withCounters, withServices, laid-counter, counter-at, laid-standing, laid-permit}
+use Rattle.buffer.proofs.Laid.{all-four, Laid, laid-counter, counter-at, laid-standing, laid-permit}
 use Rattle.request.specs.Request.{bumped, tallied, stood, listed}
 
 abbrev pub stands-at : Facts → List ℕ → Facts
-stands-at f l = withServices f (f .services .failures) (f .services .ends) l (f .services .mood)
+stands-at f l = withServices f (withStanding (f .services) l)
+
+-- a block that raises a counter has one of the six
+pub counter-of : (n : ℕ) → among n counting ≡ true → (11 ≤ n) × (n - 11 < 6)
+counter-of n e = among-all (λ m. (11 ≤ m) × (m - 11 < 6)) n counting (omega arith) e
 
 module _ {b : List ℕ} {f : Facts} {rs : List (List ℕ)} (l : Laid b f rs) where
   idle-laid : Laid (set (set (set (set b STANDING 0) (STANDING + 1) 0) (STANDING + 2) 0) (STANDING + 3) 0) (stands-at f idle) rs
@@ -44,18 +49,14 @@ module _ {b : List ℕ} {f : Facts} {rs : List (List ℕ)} (l : Laid b f rs) whe
 
   pub laid-tallied : (n : ℕ) → Laid (tallied b n) (withCounters f (counted n (f .counters))) rs
   unfolding tallied counted
-  laid-tallied n = go (eqb n 11) (leb 13 n && leb n 16) refl
+  laid-tallied n = go (among n counting) refl
     where
-      go : (x y : Bool) → (leb 13 n && leb n 16) ≡ y
-          → Laid (cond x (bumped b 0) (cond y (bumped b (n - 11)) b))
-          (withCounters f (cond x (set (f .counters) 0 (min (getD (f .counters) 0 0 + 1) 255)) (cond y (set (f .counters) (n - 11) (min (getD (f .counters) (n - 11) 0 + 1) 255)) (f .counters))))
+      go : (x : Bool) → among n counting ≡ x
+          → Laid (cond x (bumped b (n - 11)) b)
+          (withCounters f (cond x (set (f .counters) (n - 11) (min (getD (f .counters) (n - 11) 0 + 1) 255)) (f .counters)))
           rs
-      go true y e = bump-laid 0 (lit< tt)
-      go false true e =
-          let p = leb-true 13 n (and-left (leb 13 n) (leb n 16) e) in
-          let r = leb-true n 16 (and-right (leb 13 n) (leb n 16) e) in
-          bump-laid (n - 11) (omega arith)
-      go false false e = l
+      go true e = bump-laid (n - 11) (counter-of n e .1)
+      go false e = l
 
 -- the five lists after a permit of request q
 abbrev pub after : (Kind → List ℕ) → ℕ → ℕ → Kind → List ℕ

@@ -9,9 +9,11 @@ use lib.Dec.{lit<, leb, ltb}
 use lib.ListN.{getD, drop}
 use lib.Seq.{drop-cons}
 use borrow.Author.Tests.{lt-ltb, le-ltb, ne-eqb}
-use Rattle.rules.specs.Calls.{timed, ask, answer}
+use Rattle.rules.specs.Calls.{timed, answer}
+use Rattle.rules.specs.declared.Event.the-variants.{Ask as ask}
 use Rattle.rules.specs.Tables.{Kind, attach, activation, pdp, sms, reset, within, inHour, fromNewest, freeIn, ascending}
-use Rattle.rules.specs.Rules.{State, Limit, limit, limits, blocks, blockedBy, firstBlock, refusal, runs, verdict, ruling}
+use Rattle.rules.specs.Rules.{Limit, limit, limits, blocks, blockedBy, firstBlock, refusal, runs, verdict, ruling}
+use Rattle.rules.specs.State.{State}
 use Rattle.rules.proofs.Newest.{ascending-rises, ascending-wider, within-past, within-late}
 use Rattle.rules.proofs.Leaving.{full-leaves}
 use Rattle.buffer.specs.Layout.{place, row, factsOf, view}

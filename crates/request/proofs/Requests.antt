@@ -7,14 +7,16 @@ use lib.Dec.{eqb}
 use lib.ListN.{length}
 use borrow.Author.Tests.{leb-true, ne-eqb}
 use Rattle.rules.specs.declared.Answer.{Answer}
-use Rattle.rules.specs.Calls.{timed, ask}
+use Rattle.rules.specs.Calls.{timed}
+use Rattle.rules.specs.declared.Event.the-variants.{Ask as ask}
 use Rattle.rules.specs.Tables.{Kind, goes}
-use Rattle.rules.specs.Rules.{Facts, inRange, ruling, refused, moved, counted, asked, withStanding, acted, changed, onto, adds, newest, step}
+use Rattle.rules.specs.Rules.{inRange, ruling, refused, moved, counted, asked, acted, changed, enters, adds, newest, step}
+use Rattle.rules.specs.State.{Facts, withCounters, withServices, withStanding}
 use Rattle.rules.proofs.Checks.{permit-passed, in-range}
 use Rattle.buffer.specs.Layout.{spread, lay, rows, factsOf, view}
 use Rattle.buffer.specs.Good.{Shape, good}
 use Rattle.buffer.proofs.Keep.{newest-all}
-use Rattle.buffer.proofs.Laid.{withCounters, laid-as, laid-shape}
+use Rattle.buffer.proofs.Laid.{laid-as, laid-shape}
 use Rattle.clock.specs.Call.{Says}
 use Rattle.clock.proofs.Saying.{lists-short, goes-on, says-good, says-refused}
 use Rattle.clock.proofs.Leaking.{laid-moved}
@@ -26,19 +28,13 @@ module _ (b : List ℕ) (g : good b ≡ true) (t q : ℕ) (a : Answer) (e : a �
   facts-after : ℕ → Facts
   facts-after n =
       let f = moved t (factsOf b) in
-      record {
-        opening = f .opening;
-        mode = f .mode;
-        last = f .last;
-        counters = counted n (f .counters);
-        services = withStanding (f .services) (cond (eqb n 0) (asked q (f .services .standing)) (f .services .standing));
-      }
+      withServices (withCounters f (counted n (f .counters))) (withStanding (f .services) (cond (eqb n 0) (asked q (f .services .standing)) (f .services .standing)))
 
   lists-after : ℕ → Kind → List ℕ
   lists-after n k = newest (view b .lists k ++ cond (eqb n 0 && goes q k) (t ∷ []) [])
 
   goes-to : refused a ≡ false → lay (step (view b) (timed t (ask q))) ≡ spread (facts-after (a .number)) (rows (lists-after (a .number)))
-  unfolding changed acted adds onto facts-after lists-after
+  unfolding changed acted adds enters facts-after lists-after
   goes-to h = goes-on b g (timed t (ask q)) a (sym e) h
 
   short : (k : Kind) → length (view b .lists k) ≤ 255
@@ -73,13 +69,7 @@ module _ (b : List ℕ) (g : good b ≡ true) (t q : ℕ) (a : Answer) (e : a �
       let f = moved t (factsOf b) in
       λ i.
       spread
-      (record {
-        opening = f .opening;
-        mode = f .mode;
-        last = f .last;
-        counters = counted (a .number) (f .counters);
-        services = withStanding (f .services) (cond (z i) (asked q (f .services .standing)) (f .services .standing));
-      })
+      (withServices (withCounters f (counted (a .number) (f .counters))) (withStanding (f .services) (cond (z i) (asked q (f .services .standing)) (f .services .standing))))
       (rows (λ k. kept k z i))
 
   pub request-blocked : {x y : List ℕ} → refused a ≡ false → (a .number ≡ 0 → ⊥) → x ≡ spread (moved t (factsOf b)) (rows (view b .lists)) → y ≡ tallied x (a .number)

@@ -1,12 +1,13 @@
 -- What the parts of a request do to the places. Assumes nothing.
 use Prim.Native.Nat.{ℕ, _+_, _-_}
 use mathlib.Core.Path.{_≡_}
-use mathlib.Core.Bool.{false, cond, _&&_}
+use mathlib.Core.Bool.{false, cond}
 use mathlib.Core.List.{List}
 use lib.Dec.{leb, eqb}
 use lib.ListN.{getD, set}
-use Rattle.rules.specs.Tables.{attach, oneMore}
-use Rattle.rules.specs.Rules.{Facts, Limit, limit, limits}
+use Rattle.rules.specs.Tables.{attach, among, counting, oneMore}
+use Rattle.rules.specs.Rules.{Limit, limit, limits}
+use Rattle.rules.specs.State.{Facts}
 use Rattle.buffer.specs.Places.{STANDING, COUNTERS}
 use Rattle.buffer.specs.Layout.{place}
 use Rattle.buffer.specs.Lists.{permitted}
@@ -33,7 +34,7 @@ bumped b i = set b (COUNTERS + i) (oneMore (getD b (COUNTERS + i) 0))
 
 -- the counters after answer n
 unfoldable pub tallied : List ℕ → ℕ → List ℕ
-tallied b n = cond (eqb n 11) (bumped b 0) (cond (leb 13 n && leb n 16) (bumped b (n - 11)) b)
+tallied b n = cond (among n counting) (bumped b (n - 11)) b
 
 -- the standing after a permit of request q
 unfoldable pub stood : List ℕ → ℕ → List ℕ

@@ -1,5 +1,4 @@
-// Requests: decided by reading alone, then carried out by writing. `request` is the call; `request_in` is the same on a buffer that is
-// known to be good.
+// Requests, on a buffer that is known to be good: decided by reading alone, then carried out by writing.
 use buffer::fields;
 use buffer::lists;
 use buffer::places as at;
@@ -9,8 +8,9 @@ ghost use mathlib.Core.Bool.{true, cond, _&&_};
 ghost use Prim.Native.Nat.{_≤_, _<_};
 ghost use lib.ListN.{length};
 ghost use lib.Dec.{ltb};
-ghost use Rattle.rules.specs.Calls.{timed, ask};
-ghost use Rattle.rules.specs.Tables.{oneMore, ascending};
+ghost use Rattle.rules.specs.Calls.{timed};
+ghost use Rattle.rules.specs.declared.Event.the-variants.{Ask as ask};
+ghost use Rattle.rules.specs.Tables.{oneMore, ascending, among, counting};
 ghost use Rattle.rules.specs.Rules.{stands, limits, firstBlock, refusal, ruling};
 ghost use Rattle.buffer.specs.Places.{SIZE};
 ghost use Rattle.buffer.specs.Layout.{view, factsOf};
@@ -248,19 +248,19 @@ fn bump(s: &mut [u32], i: usize)
     fields::set_counter(s, i, more);
 }
 
+// Whether n is the number of a block that raises a counter.
+fn counts(n: u32) -> bool
+    ensures { λ r. ⌜ r ≡ among n counting ⌝ }
+{
+    (n == 11) | (n == 13) | (n == 14) | (n == 15) | (n == 16)
+}
+
 // The counters after answer n: a block by N1 or F1-F4 raises its own.
 fn tally(s: &mut [u32], n: u32)
     requires { ⌜ length (now s) ≡ SIZE ⌝ }
     ensures { λ _. ⌜ now (s .exit) ≡ tallied (now (s .entry)) n ⌝ }
 {
-    if n == 11 {
-        bump(s, 0);
-        return;
-    }
-    if n < 13 {
-        return;
-    }
-    if 16 < n {
+    if !counts(n) {
         return;
     }
     bump(s, (n - 11) as usize);
@@ -274,7 +274,7 @@ pub fn request_in(s: &mut [u32], t: u32, q: u32) -> Answer
 {
     let a = decide(s, t, q);
     let n = a.number;
-    if (1 <= n) & (n <= 5) {
+    if clock::refused(n) {
         return a;
     }
     clock::advance(s, t);
@@ -285,17 +285,4 @@ pub fn request_in(s: &mut [u32], t: u32, q: u32) -> Answer
     }
     tally(s, n);
     a
-}
-
-// A request.
-pub fn request(s: &mut [u32], t: u32, q: u32) -> Answer
-    ensures { λ r. ⌜ Says (now (s .entry)) (timed t (ask q)) r (now (s .exit)) ⌝ }
-{
-    if !buffer::is_good(s) {
-        return Answer {
-            number: 1,
-            second: 0,
-        };
-    }
-    request_in(s, t, q)
 }

@@ -10,18 +10,20 @@ use lib.Dec.{ltb, leb, eqb}
 use borrow.Author.Tests.{ltb-true, ltb-false, leb-true, lt-ltb, le-ltb, le-leb, lt-leb, eqb-true, ne-eqb}
 use native.Mathlib.Omega.{arith}
 use Rattle.rules.specs.declared.Answer.{Answer}
-use Rattle.rules.specs.Calls.{Given, ask, Call, timed, Entry, entry, answer}
-use Rattle.rules.specs.Tables.{highestTime, inHour, fromNewest, freeIn, Kind}
+use Rattle.rules.specs.Calls.{ask, Call, timed, Entry, entry, answer}
+use Rattle.rules.specs.Tables.{highestTime, inHour, fromNewest, freeIn, Kind, refusals}
 use Rattle.rules.specs.Record.{lastTime, permits, backOffEnd, standing, mood}
-use Rattle.rules.specs.Rules.{State, Facts, Limit, limits, blocks, blockedBy, firstBlock, stands, refusal, runs, verdict, ruling, refused}
+use Rattle.rules.specs.Rules.{Limit, limits, blocks, blockedBy, firstBlock, stands, refusal, runs, verdict, ruling, refused}
+use Rattle.rules.specs.State.{State, Facts}
 use Rattle.rules.specs.Told.{tells, ruled, told}
-use Rattle.rules.specs.Demand3.{Each, Again, Bytes}
+use Rattle.rules.specs.Demand3.{Each, Again}
+use Rattle.rules.proofs.Among.{not-among}
 use Rattle.rules.proofs.Checks.{refusal-low, in-range, on-time, fits, passes}
 use Rattle.rules.proofs.Groups.{four-path}
 use Rattle.rules.proofs.Newest.{Rising, rising-more, within-late, blocks-full}
 use Rattle.rules.proofs.Hour.{rolling-hour}
 use Rattle.rules.proofs.Leaving.{full-leaves}
-use Rattle.rules.proofs.Demand3.{Rises, rises, first-is, onward-append}
+use Rattle.rules.proofs.Demand3.{Starts, Rises, rises, first-is, onward-append}
 
 -- ---- A limit, by how many are in the hour
 
@@ -138,7 +140,7 @@ unfolding blocks
 first-lists v w e u [] = refl
 first-lists v w e u (r ∷ rs) = rw (e (r .kind), first-lists v w e u rs)
 
-module _ (g : Given) (past : List Entry) (up : Rises g past) (t q : ℕ) (a : Answer) (is : a ≡ ruled g past (timed t (ask q))) (limit : 11 ≤ a .number) where
+module _ (g : State) (past : List Entry) (up : Rises g past) (t q : ℕ) (a : Answer) (is : a ≡ ruled g past (timed t (ask q))) (limit : 11 ≤ a .number) where
   after : List Entry
   after = entry (timed t (ask q)) a ∷ past
 
@@ -174,11 +176,11 @@ module _ (g : Given) (past : List Entry) (up : Rises g past) (t q : ℕ) (a : An
 
   same-lists : (k : Kind) → tells g after .lists k ≡ w .lists k
   unfolding after w tells permits
-  same-lists k = rw (ne-eqb (a .number) 0 some) (append-nil (permits k past))
+  same-lists k = rw (ne-eqb (a .number) 0 some) (append-nil (permits g k past))
 
   standing-stays : tells g after .facts .services .standing ≡ w .facts .services .standing
   unfolding after w tells standing
-  standing-stays = four-path {f = λ s. standing s after} {g = λ s. standing s past} (λ s. rw (ne-eqb (a .number) 0 some))
+  standing-stays = four-path {f = λ s. standing g s after} {g = λ s. standing g s past} (λ s. rw (ne-eqb (a .number) 0 some))
 
   still-fits : stands (tells g after .facts) (ask q) ≡ true
   unfolding stands
@@ -215,16 +217,16 @@ module _ (g : Given) (past : List Entry) (up : Rises g past) (t q : ℕ) (a : An
   unfolding after tells lastTime
   not-refused u h k = passes (tells g after .facts) u (ask q) (in-range (w .facts) t (ask q) (passed .checks)) h k still-fits
 
-  risen : (k : Kind) → Rising (g .opening .opened) (w .lists k) t
+  risen : (k : Kind) → Rising (g .facts .opening .opened) (w .lists k) t
   unfolding w tells
-  risen k = rising-more _ (permits k past) _ t (up k) (on-time (w .facts) t (ask q) (passed .checks))
+  risen k = rising-more _ (permits g k past) _ t (up k) (on-time (w .facts) t (ask q) (passed .checks))
 
   -- at any second before those of the answer are over
   sooner : (u : ℕ) → t ≤ u → u < t + a .second → u ≤ highestTime → ruled g after (timed u (ask q)) ≡ answer (a .number) (t + a .second - u)
   sooner u h k m =
       answered u h (not-refused u h m)
       ∙ subst (λ (x : Answer). x .number ≢ 0 → u < t + x .second → firstBlock w u rs ≡ answer (x .number) (t + x .second - u)) (sym (passed .first))
-      (first-still w (g .opening .opened) t u risen h rs) some k
+      (first-still w (g .facts .opening .opened) t u risen h rs) some k
 
   -- and from then on
   later : (u : ℕ) → t + a .second ≤ u → ruled g after (timed u (ask q)) .number ≢ a .number
@@ -240,11 +242,11 @@ module _ (g : Given) (past : List Entry) (up : Rises g past) (t q : ℕ) (a : An
           let h : t ≤ u = omega (arith, k) in
           rw (answered-verdict u h)
           (subst (λ (x : Answer). x .number ≢ 0 → t + x .second ≤ u → firstBlock w u rs .number ≢ x .number) (sym (passed .first))
-          (first-over w (g .opening .opened) t u risen h rs (ordered (w .facts) q)) some k)
+          (first-over w (g .facts .opening .opened) t u risen h rs (ordered (w .facts) q)) some k)
 
 -- ---- The theorem
 
-pub again : (g : Given) → Bytes (g .opening) → (before : List Call) (t q : ℕ) → 11 ≤ ruled g (told g before) (timed t (ask q)) .number
+pub again : (g : State) → Starts g → (before : List Call) (t q : ℕ) → 11 ≤ ruled g (told g before) (timed t (ask q)) .number
     → Again g before t q (ruled g (told g before) (timed t (ask q)))
 unfolding after
 again g b before t q limit = record { too-early = λ u h k m. rw told-after (sooner g past up t q a refl limit u h k m); in-time = λ u k. rw told-after (later g past up t q a refl limit u k) }
@@ -259,11 +261,7 @@ again g b before t q limit = record { too-early = λ u h k m. rw told-after (soo
     a = ruled g past (timed t (ask q))
 
     not-refused : refused a ≡ false
-    not-refused = rw (lt-leb (a .number) 5 (omega (arith, limit))) (go (leb 1 (a .number)))
-      where
-        go : (x : Bool) → (x && false) ≡ false
-        go true = refl
-        go false = refl
+    not-refused = not-among (a .number) refusals (omega (arith, limit))
 
     told-after : told g (before ++ (timed t (ask q) ∷ [])) ≡ entry (timed t (ask q)) a ∷ past
     told-after = rw (onward-append g [] before (timed t (ask q) ∷ []), not-refused)

@@ -1,15 +1,18 @@
 -- What the number of an answer tells of the checks. Assumes nothing.
-use Prim.Native.Nat.{ℕ, _≤_}
+use Prim.Native.Nat.{ℕ, _≤_, _<_}
 use mathlib.Core.Path.{_≡_, refl, sym, ap, _∙_}
 use mathlib.Core.Bool.{Bool, true, false, cond, _&&_, false≢true}
 use mathlib.Core.List.{List, [], _++_, append-nil}
+use mathlib.Core.Logic.{_≢_}
 use lib.Dec.{leb, eqb}
 use borrow.Author.Tests.{leb-true, le-leb, eqb-false, eqb-true, ne-eqb}
 use native.Mathlib.Omega.{arith}
 use Rattle.rules.specs.declared.Answer.{Answer}
-use Rattle.rules.specs.Calls.{Event, silent, rejected, nfm, nfm-start, intervals, query, bad, Call, timed, typed, answer}
-use Rattle.rules.specs.Tables.{highestTime, Kind, action, scheduled}
-use Rattle.rules.specs.Rules.{State, Facts, check, inRange, timely, stands, refusal, wait, failed, verdict, ruling, refused, changed, adds, learn}
+use Rattle.rules.specs.Calls.{Event, ask, outcome, dropped, tick, silent, rejected, nfm, nfm-start, intervals, query, bad, Call, timed, typed, answer}
+use Rattle.rules.specs.Tables.{highestTime, Kind, among, refusals, action, scheduled}
+use Rattle.rules.specs.Rules.{check, inRange, timely, stands, refusal, wait, failed, verdict, ruling, refused, changed, enters, adds, learn}
+use Rattle.rules.specs.State.{State, Facts}
+use Rattle.rules.proofs.Among.{among-all}
 
 pub and-left : (x y : Bool) → (x && y) ≡ true → x ≡ true
 and-left true y e = refl
@@ -19,20 +22,38 @@ pub and-right : (x y : Bool) → (x && y) ≡ true → y ≡ true
 and-right true y e = e
 and-right false y e = absurd (false≢true e)
 
--- ---- Refusals are 1 to 5
+-- ---- The first check that fails has a refusal's number
 
-low : (x : Bool) (n rest : ℕ) → n ≤ 5 → rest ≤ 5 → check x n rest ≤ 5
-low true n rest h g = g
-low false n rest h g = h
+-- 0, or a refusal
+abbrev Refusal : ℕ → Type 0
+Refusal n = n ≢ 0 → among n refusals ≡ true
 
-pub refusal-low : (f : Facts) (c : Call) → refusal f c ≤ 5
+first : (x : Bool) (n rest : ℕ) → Refusal n → Refusal rest → Refusal (check x n rest)
+first true n rest h g = g
+first false n rest h g = h
+
+none : Refusal 0
+none h = absurd (h refl)
+
+pub refusal-listed : (f : Facts) (c : Call) → refusal f c ≢ 0 → among (refusal f c) refusals ≡ true
 unfolding refusal
-refusal-low f (timed t e) = low (inRange e) 2 _ (omega arith) (low (timely f t) 3 _ (omega arith) (low (stands f e) 4 0 (omega arith) (omega arith)))
-refusal-low f (typed (nfm a)) = low (leb a 1) 5 0 (omega arith) (omega arith)
-refusal-low f (typed (nfm-start a s)) = low (leb a 1 && leb s 1) 5 0 (omega arith) (omega arith)
-refusal-low f (typed (intervals l)) = low (scheduled l) 5 0 (omega arith) (omega arith)
-refusal-low f (typed query) = omega arith
-refusal-low f (typed bad) = omega arith
+refusal-listed f (timed t e) = first (inRange e) 2 _ (λ h. refl) (first (timely f t) 3 _ (λ h. refl) (first (stands f e) 4 0 (λ h. refl) none))
+refusal-listed f (typed (nfm a)) = first (leb a 1) 5 0 (λ h. refl) none
+refusal-listed f (typed (nfm-start a s)) = first (leb a 1 && leb s 1) 5 0 (λ h. refl) none
+refusal-listed f (typed (intervals l)) = first (scheduled l) 5 0 (λ h. refl) none
+refusal-listed f (typed query) = none
+refusal-listed f (typed bad) = λ h. refl
+
+-- refusals are below the numbers of rules and actions
+pub refusal-low : (f : Facts) (c : Call) → refusal f c < 10
+refusal-low f c = go (eqb n 0) refl
+  where
+    n : ℕ
+    n = refusal f c
+
+    go : (b : Bool) → eqb n 0 ≡ b → n < 10
+    go true p = rw (eqb-true n 0 p) (omega arith)
+    go false p = among-all (λ m. m < 10) n refusals (omega arith) (refusal-listed f c (eqb-false n 0 p))
 
 -- an answer that is no refusal comes from a call that passed the checks, and so does a permit
 pub accepted : (w : State) (c : Call) → refused (ruling w c) ≡ false → refusal (w .facts) c ≡ 0
@@ -45,9 +66,7 @@ accepted w c e = go (eqb (refusal (w .facts) c) 0) refl e
     go : (b : Bool) → eqb n 0 ≡ b → refused (cond b (verdict w c) (answer n 0)) ≡ false → n ≡ 0
     go true p e = eqb-true n 0 p
     go false p e =
-        let h = eqb-false n 0 p in
-        let g : refused (answer n 0) ≡ true = rw (le-leb 1 n (omega arith), le-leb n 5 (refusal-low (w .facts) c)) in
-        absurd (false≢true (sym e ∙ g))
+        absurd (false≢true (sym e ∙ refusal-listed (w .facts) c (eqb-false n 0 p)))
 
 pub permit-passed : (w : State) (c : Call) → ruling w c .number ≡ 0 → refusal (w .facts) c ≡ 0
 unfolding ruling
@@ -93,9 +112,16 @@ unfolding refusal
 passes f t e r l h s = rw (r, le-leb (f .last) t l, le-leb t highestTime h, s)
 
 -- a refused call is added to no list, and changes nothing
+refused-enters : (e : Event) (n : ℕ) (k : Kind) → among n refusals ≡ true → enters e n k ≡ false
+unfolding enters
+refused-enters (ask q) n k h = rw (ne-eqb n 0 (among-all (λ m. m ≢ 0) n refusals (omega arith) h))
+refused-enters (outcome s o) n k h = refl
+refused-enters dropped n k h = refl
+refused-enters tick n k h = refl
+
 pub refused-adds : (k : Kind) (c : Call) (a : Answer) → refused a ≡ true → adds k c a ≡ []
 unfolding adds
-refused-adds k (timed t e) a h = let g = leb-true 1 (a .number) (and-left _ _ h) in rw (ne-eqb (a .number) 0 (λ z. omega arith))
+refused-adds k (timed t e) a h = rw (refused-enters e (a .number) k h)
 refused-adds k (typed l) a h = refl
 
 pub refused-nothing : (w : State) (c : Call) (a : Answer) → refused a ≡ true → learn w c a ≡ w
@@ -137,12 +163,12 @@ ruling-20 P w c h e = go (eqb (refusal (w .facts) c) 0) e
     go false e = absurd (omega (arith, refusal-low (w .facts) c))
 
 module _ (w : State) (t s : ℕ) where
-  pub silent-wait : ruling w (timed t (silent s)) .number ≡ 20 → ruling w (timed t (silent s)) .second ≡ wait (w .facts) s
+  pub silent-wait : ruling w (timed t (outcome s silent)) .number ≡ 20 → ruling w (timed t (outcome s silent)) .second ≡ wait (w .facts) s
   unfolding verdict
-  silent-wait = ruling-20 (λ a. a .second ≡ wait (w .facts) s) w (timed t (silent s)) (failed-wait (w .facts) s 20)
+  silent-wait = ruling-20 (λ a. a .second ≡ wait (w .facts) s) w (timed t (outcome s silent)) (failed-wait (w .facts) s 20)
 
-  pub rejected-wait : (cause second : ℕ) → ruling w (timed t (rejected s cause second)) .number ≡ 20
-      → ruling w (timed t (rejected s cause second)) .second ≡ wait (w .facts) s
+  pub rejected-wait : (cause second : ℕ) → ruling w (timed t (outcome s (rejected cause second))) .number ≡ 20
+      → ruling w (timed t (outcome s (rejected cause second))) .second ≡ wait (w .facts) s
   unfolding verdict
   rejected-wait cause second =
-      ruling-20 (λ a. a .second ≡ wait (w .facts) s) w (timed t (rejected s cause second)) (failed-wait (w .facts) s (action s cause second))
+      ruling-20 (λ a. a .second ≡ wait (w .facts) s) w (timed t (outcome s (rejected cause second))) (failed-wait (w .facts) s (action s cause second))

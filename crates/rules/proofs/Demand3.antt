@@ -9,16 +9,17 @@ use lib.Dec.{ltb, leb, eqb}
 use borrow.Author.Tests.{ltb-true, ltb-false, leb-true, leb-false, lt-ltb, le-leb, lt-leb, eq-eqb}
 use native.Mathlib.Omega.{arith}
 use Rattle.rules.specs.declared.Answer.{Answer}
-use Rattle.rules.specs.Calls.{Given, ask, Call, timed, Entry, answer}
+use Rattle.rules.specs.Calls.{ask, Call, timed, Entry, answer}
 use Rattle.rules.specs.Tables.{within, inHour, fromNewest, freeIn, Kind, goes}
 use Rattle.rules.specs.Record.{lastTime, permits, backOffEnd}
-use Rattle.rules.specs.Rules.{State, Facts, Limit, limits, blocks, blockedBy, firstBlock, refusal, runs, verdict, ruling, refused, fresh, held, heldAnswers, short}
+use Rattle.rules.specs.Rules.{Limit, limits, blocks, blockedBy, firstBlock, refusal, runs, verdict, ruling, refused, held, heldAnswers, short}
+use Rattle.rules.specs.State.{State, Facts}
 use Rattle.rules.specs.Told.{tells, ruled, entered, onward, ruledAll, told}
-use Rattle.rules.specs.Demand3.{Each, Some, limitsOn, Broken, Returns, Breaks, back-off, limit, Demand3, Bytes}
+use Rattle.rules.specs.Demand3.{Each, Some, limitsOn, Broken, Returns, Breaks, back-off, limit, Demand3}
 use Rattle.rules.proofs.Checks.{and-left, and-right, refusal-low, accepted, permit-passed, on-time}
 use Rattle.rules.proofs.Groups.{of-four}
-use Rattle.rules.proofs.RecordTells.{known-tells, answers-told}
-use Rattle.rules.proofs.Newest.{Rising, rising-more, within-past, within-late, blocks-full, fresh-sound, known-sound, bounded}
+use Rattle.rules.proofs.RecordTells.{Begins, known-tells, answers-told}
+use Rattle.rules.proofs.Newest.{Rising, rising-more, within-past, within-late, blocks-full, Sound, known-sound, bounded}
 use Rattle.rules.proofs.Hour.{rolling-hour}
 use Rattle.rules.proofs.Leaving.{full-leaves}
 
@@ -29,8 +30,8 @@ each-both (r ∷ rs) f p q = (f r (p .0) (q .0), each-both rs f (p .1) (q .1))
 -- ---- Permitted within the limits, or blocked by one that would be broken
 
 -- limit r is kept by a permit at t
-abbrev Kept : List Entry → ℕ → Limit → Type 0
-Kept past t r = r .applies ≡ true → 0 < r .most → inHour t (permits (r .kind) past ++ (t ∷ [])) ≤ r .most
+abbrev Kept : State → List Entry → ℕ → Limit → Type 0
+Kept g past t r = r .applies ≡ true → 0 < r .most → inHour t (permits g (r .kind) past ++ (t ∷ [])) ≤ r .most
 
 in-hour-more : (t : ℕ) (l : List ℕ) → inHour t (l ++ (t ∷ [])) ≡ suc (inHour t l)
 unfolding within
@@ -46,33 +47,33 @@ unfolding limits
 numbered f q = omega arith
 
 -- the permits of a record rise to its last time
-abbrev pub Rises : Given → List Entry → Type 0
-Rises g past = (k : Kind) → Rising (g .opening .opened) (permits k past) (lastTime g past)
+abbrev pub Rises : State → List Entry → Type 0
+Rises g past = (k : Kind) → Rising (g .facts .opening .opened) (permits g k past) (lastTime g past)
 
-module _ (g : Given) (past : List Entry) (up : Rises g past) (t : ℕ) where
+module _ (g : State) (past : List Entry) (up : Rises g past) (t : ℕ) where
   w : State
   w = tells g past
 
-  kept : (r : Limit) → blocks w t r ≡ false → Kept past t r
+  kept : (r : Limit) → blocks w t r ≡ false → Kept g past t r
   unfolding blocks w tells
   kept r e p q =
-      let n = inHour t (permits (r .kind) past) in
+      let n = inHour t (permits g (r .kind) past) in
       let h : leb (r .most) n ≡ false = rw (p, lt-ltb 0 (r .most) q) at e in
-      rw (in-hour-more t (permits (r .kind) past)) (leb-false (r .most) n h)
+      rw (in-hour-more t (permits g (r .kind) past)) (leb-false (r .most) n h)
 
-  broken : (u : ℕ) (r : Limit) → blocks w u r ≡ true → Broken past u r
+  broken : (u : ℕ) (r : Limit) → blocks w u r ≡ true → Broken g past u r
   unfolding w tells
   broken u r e =
       let f = blocks-full w u r e in
-      record { applies = f .applies; above = f .above; over = rw (in-hour-more u (permits (r .kind) past)) (omega (arith, f .over)) }
+      record { applies = f .applies; above = f .above; over = rw (in-hour-more u (permits g (r .kind) past)) (omega (arith, f .over)) }
 
   -- a limit that blocks at t, which is not before the last time, would permit after the seconds of its answer
-  returns : lastTime g past ≤ t → (r : Limit) → blocks w t r ≡ true → Returns past t r (freeIn t (r .most) (permits (r .kind) past))
+  returns : lastTime g past ≤ t → (r : Limit) → blocks w t r ≡ true → Returns g past t r (freeIn t (r .most) (permits g (r .kind) past))
   unfolding w tells
   returns late r e =
       let f = blocks-full w t r e in
-      let l = permits (r .kind) past in
-      let h = full-leaves w t r (g .opening .opened) (rising-more _ l _ t (up (r .kind)) late) e in
+      let l = permits g (r .kind) past in
+      let h = full-leaves w t r (g .facts .opening .opened) (rising-more _ l _ t (up (r .kind)) late) e in
       let p = fromNewest (r .most) l in
       let in-hour : t < p + 3600 = within-late t p (h .in-hour) in
       let gone : p ≤ t = within-past t p (h .in-hour) in
@@ -84,18 +85,18 @@ module _ (g : Given) (past : List Entry) (up : Rises g past) (t : ℕ) where
         then = λ u b x. omega (arith, in-hour, rw (in-hour-more u l) at (x .over), h .from u (omega (arith, in-hour, b)));
       }
 
-  all-kept : (rs : List Limit) → Each (λ r. (0 < r .number) × (r .number ≢ 10)) rs → firstBlock w t rs .number ≡ 0 → Each (Kept past t) rs
+  all-kept : (rs : List Limit) → Each (λ r. (0 < r .number) × (r .number ≢ 10)) rs → firstBlock w t rs .number ≡ 0 → Each (Kept g past t) rs
   all-kept [] n h = tt
   all-kept (r ∷ rs) n h = go (blocks w t r) refl h (all-kept rs (n .1))
     where
       go : (b : Bool) → blocks w t r ≡ b → (cond b (blockedBy w t r) (firstBlock w t rs)) .number ≡ 0
-          → (firstBlock w t rs .number ≡ 0 → Each (Kept past t) rs) → Each (Kept past t) (r ∷ rs)
+          → (firstBlock w t rs .number ≡ 0 → Each (Kept g past t) rs) → Each (Kept g past t) (r ∷ rs)
       go true e h k = absurd (omega (arith, n .0 .0))
       go false e h k = (kept r e, k h)
 
   -- a limit that answers a
   abbrev Blocker : Answer → Limit → Type 0
-  Blocker a r = (r .number ≡ a .number) × (Broken past t r × Returns past t r (a .second))
+  Blocker a r = (r .number ≡ a .number) × (Broken g past t r × Returns g past t r (a .second))
 
   found : lastTime g past ≤ t → (rs : List Limit) → firstBlock w t rs .number ≢ 0 → Some (Blocker (firstBlock w t rs)) rs
   unfolding w tells
@@ -110,7 +111,7 @@ module _ (g : Given) (past : List Entry) (up : Rises g past) (t : ℕ) where
 
   -- what an answer a to request q, which no check refuses, tells
   data Decided (q : ℕ) (a : Answer) : Type 0 where
-    permitted : a .number ≡ 0 → (q ≤ 3 → backOffEnd g q past ≤ t) → Each (Kept past t) (limitsOn g past q) → Decided q a
+    permitted : a .number ≡ 0 → (q ≤ 3 → backOffEnd g q past ≤ t) → Each (Kept g past t) (limitsOn g past q) → Decided q a
     blocked : a .number ≢ 0 → Breaks g past t q a → Decided q a
 
   end-held : (q : ℕ) → q ≤ 3 → getD (w .facts .services .ends) q 0 ≡ backOffEnd g q past
@@ -144,7 +145,7 @@ module _ (g : Given) (past : List Entry) (up : Rises g past) (t : ℕ) where
   -- a permit keeps every limit, and no back-off of its service runs
   record Within (q : ℕ) : Type 0 where
     no-back-off : q ≤ 3 → backOffEnd g q past ≤ t
-    every-limit : Each (Kept past t) (limitsOn g past q)
+    every-limit : Each (Kept g past t) (limitsOn g past q)
 
   permit-within : (q : ℕ) (a : Answer) → Decided q a → a .number ≡ 0 → Within q
   permit-within q a (permitted x y z) e = record { no-back-off = y; every-limit = z }
@@ -164,9 +165,15 @@ module _ (g : Given) (past : List Entry) (up : Rises g past) (t : ℕ) where
 
 -- ---- After any calls
 
-pub rises : (g : Given) → Bytes (g .opening) → (before : List Call) → Rises g (told g before)
+-- what a record may begin with: a new buffer, or what a good buffer holds
+pub record Starts (g : State) : Type 0 where
+  pub sound : Sound g
+  pub short : short g ≡ g
+  pub begins : Begins g
+
+pub rises : (g : State) → Starts g → (before : List Call) → Rises g (told g before)
 unfolding tells
-rises g b before k = rw (known-tells g before) at (known-sound (fresh g) (fresh-sound g b) before .rising k)
+rises g b before k = rw (known-tells g (b .begins) before) at (known-sound g (b .sound) before .rising k)
 
 -- ---- A limit that applies to a request counts the list that its permit goes to
 
@@ -180,43 +187,43 @@ counts-own f q = (and-right on (eqb q 5), (inner 1, (inner 2, (inner 3, (and-rig
     inner : (m : ℕ) → (on && (eqb q 2 && eqb (f .services .mood) m)) ≡ true → eqb q 2 ≡ true
     inner m e = and-left (eqb q 2) _ (and-right on _ e)
 
-pub onward-append : (g : Given) (past : List Entry) (cs ds : List Call) → onward g past (cs ++ ds) ≡ onward g (onward g past cs) ds
+pub onward-append : (g : State) (past : List Entry) (cs ds : List Call) → onward g past (cs ++ ds) ≡ onward g (onward g past cs) ds
 onward-append g past [] ds = refl
 onward-append g past (c ∷ cs) ds = onward-append g (entered c (ruled g past c) past) cs ds
 
 -- a permit stands at the end of each list that it goes to
-permit-added : (g : Given) (before : List Call) (t q : ℕ) (k : Kind) → ruled g (told g before) (timed t (ask q)) .number ≡ 0 → goes q k ≡ true
-    → permits k (told g (before ++ (timed t (ask q) ∷ []))) ≡ permits k (told g before) ++ (t ∷ [])
+permit-added : (g : State) (before : List Call) (t q : ℕ) (k : Kind) → ruled g (told g before) (timed t (ask q)) .number ≡ 0 → goes q k ≡ true
+    → permits g k (told g (before ++ (timed t (ask q) ∷ []))) ≡ permits g k (told g before) ++ (t ∷ [])
 unfolding permits
 permit-added g before t q k e h = rw (onward-append g [] before (timed t (ask q) ∷ []), e, h)
 
-bound : (g : Given) → Bytes (g .opening) → (before : List Call) (t q : ℕ) → ruled g (told g before) (timed t (ask q)) .number ≡ 0
-    → Each (λ r. r .applies ≡ true → 0 < r .most → inHour t (permits (r .kind) (told g (before ++ (timed t (ask q) ∷ [])))) ≤ r .most) (limitsOn g (told g before) q)
+bound : (g : State) → Starts g → (before : List Call) (t q : ℕ) → ruled g (told g before) (timed t (ask q)) .number ≡ 0
+    → Each (λ r. r .applies ≡ true → 0 < r .most → inHour t (permits g (r .kind) (told g (before ++ (timed t (ask q) ∷ [])))) ≤ r .most) (limitsOn g (told g before) q)
 bound g b before t q e =
     each-both (limitsOn g (told g before) q) itself (counts-own (tells g (told g before) .facts) q) (permit g (told g before) (rises g b before) t q e .every-limit)
   where
-    itself : (r : Limit) → (r .applies ≡ true → goes q (r .kind) ≡ true) → Kept (told g before) t r
-        → r .applies ≡ true → 0 < r .most → inHour t (permits (r .kind) (told g (before ++ (timed t (ask q) ∷ [])))) ≤ r .most
+    itself : (r : Limit) → (r .applies ≡ true → goes q (r .kind) ≡ true) → Kept g (told g before) t r
+        → r .applies ≡ true → 0 < r .most → inHour t (permits g (r .kind) (told g (before ++ (timed t (ask q) ∷ [])))) ≤ r .most
     itself r own k p m = rw (permit-added g before t q (r .kind) e (own p)) (k p m)
 
 -- ---- The same without counting
 
 -- of more permits than a limit that applies, the one so many places before a permit at t is at least 3,600 seconds older
-abbrev pub Spaced : List Entry → ℕ → Limit → Type 0
-Spaced past t r =
-    r .applies ≡ true → 0 < r .most → r .most ≤ length (permits (r .kind) past) → getD (permits (r .kind) past) (length (permits (r .kind) past) - r .most) 0 + 3600 ≤ t
+abbrev pub Spaced : State → List Entry → ℕ → Limit → Type 0
+Spaced g past t r =
+    r .applies ≡ true → 0 < r .most → r .most ≤ length (permits g (r .kind) past) → getD (permits g (r .kind) past) (length (permits g (r .kind) past) - r .most) 0 + 3600 ≤ t
 
-spaced-one : (past : List Entry) (t a : ℕ) (r : Limit) → Rising a (permits (r .kind) past) t → Kept past t r → Spaced past t r
-spaced-one past t a r up k p m long =
-    let l = permits (r .kind) past in
+spaced-one : (g : State) (past : List Entry) (t a : ℕ) (r : Limit) → Rising a (permits g (r .kind) past) t → Kept g past t r → Spaced g past t r
+spaced-one g past t a r up k p m long =
+    let l = permits g (r .kind) past in
     let few : suc (inHour t l) ≤ r .most = rw (in-hour-more t l) at (k p m) in
     let e : ltb t (getD l (length l - r .most) 0 + 3600) ≡ false = rw (rolling-hour (r .most) t a l m up, le-leb (r .most) (length l) long) at (lt-leb (r .most) (inHour t l) few) in
     ltb-false t (getD l (length l - r .most) 0 + 3600) e
 
-pub spaced : (g : Given) → Bytes (g .opening) → (before : List Call) (t q : ℕ) → ruled g (told g before) (timed t (ask q)) .number ≡ 0
-    → Each (Spaced (told g before) t) (limitsOn g (told g before) q)
+pub spaced : (g : State) → Starts g → (before : List Call) (t q : ℕ) → ruled g (told g before) (timed t (ask q)) .number ≡ 0
+    → Each (Spaced g (told g before) t) (limitsOn g (told g before) q)
 unfolding tells
-spaced g b before t q e = each-both (limitsOn g past q) (λ r k x. spaced-one past t (g .opening .opened) r (up (r .kind)) k) kept kept
+spaced g b before t q e = each-both (limitsOn g past q) (λ r k x. spaced-one g past t (g .facts .opening .opened) r (up (r .kind)) k) kept kept
   where
     past : List Entry
     past = told g before
@@ -224,10 +231,10 @@ spaced g b before t q e = each-both (limitsOn g past q) (λ r k x. spaced-one pa
     late : lastTime g past ≤ t
     late = on-time (tells g past .facts) t (ask q) (permit-passed (tells g past) (timed t (ask q)) e)
 
-    up : (k : Kind) → Rising (g .opening .opened) (permits k past) t
-    up k = rising-more _ (permits k past) _ t (rises g b before k) late
+    up : (k : Kind) → Rising (g .facts .opening .opened) (permits g k past) t
+    up k = rising-more _ (permits g k past) _ t (rises g b before k) late
 
-    kept : Each (Kept past t) (limitsOn g past q)
+    kept : Each (Kept g past t) (limitsOn g past q)
     kept = permit g past (rises g b before) t q e .every-limit
 
 -- ---- 10 is no answer to request 5
@@ -251,7 +258,7 @@ reset-not-held w t = go (eqb (refusal (w .facts) (timed t (ask 5))) 0)
 -- ---- The demand
 
 -- whoever answers the next call as the rules do over the record keeps the demand
-pub as-the-rules : (g : Given) → Bytes (g .opening) → (before : List Call) (next : Call → Answer) → ((c : Call) → next c ≡ ruled g (told g before) c)
+pub as-the-rules : (g : State) → Starts g → (before : List Call) (next : Call → Answer) → ((c : Call) → next c ≡ ruled g (told g before) c)
     → Demand3 g before next
 as-the-rules g b before next same = record {
   as-the-record = same;
@@ -261,14 +268,14 @@ as-the-rules g b before next same = record {
   blocked-by-a-rule = λ t q. rw (same (timed t (ask q))) (block g (told g before) (rises g b before) t q);
 }
 
--- DEMAND 3 of what a buffer holds, for every opening whose limits are bytes, and every sequence of calls after it
-pub demand-3 : (g : Given) → Bytes (g .opening) → (before : List Call) → Demand3 g before (λ c. ruling (held (fresh g) before) c)
+-- DEMAND 3 of what a buffer holds, for everything that a record may begin with, and every sequence of calls after it
+pub demand-3 : (g : State) → Starts g → (before : List Call) → Demand3 g before (λ c. ruling (held g before) c)
 demand-3 g b before =
-    as-the-rules g b before (λ c. ruling (held (fresh g) before) c) (λ c. bounded g b before .next c ∙ ap (λ (w : State). ruling w c) (known-tells g before))
+    as-the-rules g b before (λ c. ruling (held g before) c) (λ c. bounded g (b .sound) (b .short) before .next c ∙ ap (λ (w : State). ruling w c) (known-tells g (b .begins) before))
 
 -- what a buffer holds is what the record tells, each list cut to its newest 255; its answers so far are the rules' over the record
-pub held-told : (g : Given) → Bytes (g .opening) → (cs : List Call) → held (fresh g) cs ≡ short (tells g (told g cs))
-held-told g b cs = bounded g b cs .same-state ∙ ap (λ (w : State). short w) (known-tells g cs)
+pub held-told : (g : State) → Starts g → (cs : List Call) → held g cs ≡ short (tells g (told g cs))
+held-told g b cs = bounded g (b .sound) (b .short) cs .same-state ∙ ap (λ (w : State). short w) (known-tells g (b .begins) cs)
 
-pub held-answers : (g : Given) → Bytes (g .opening) → (cs : List Call) → heldAnswers (fresh g) cs ≡ ruledAll g [] cs
-held-answers g b cs = bounded g b cs .same-answers ∙ answers-told g cs
+pub held-answers : (g : State) → Starts g → (cs : List Call) → heldAnswers g cs ≡ ruledAll g [] cs
+held-answers g b cs = bounded g (b .sound) (b .short) cs .same-answers ∙ answers-told g (b .begins) cs

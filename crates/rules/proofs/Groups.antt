@@ -1,15 +1,17 @@
 -- The four services' numbers and the six counters as lists: what a store changes. Assumes nothing.
 use Prim.Native.Nat.{ℕ, zero, suc, _+_, min, _≤_}
-use mathlib.Core.Path.{_≡_, refl, sym, ap, _∙_, subst}
+use mathlib.Core.Path.{_≡_, refl, ap, _∙_}
 use mathlib.Core.Bool.{Bool, true, false, cond, _&&_}
 use lib.ListN.{getD, set}
 use lib.Dec.{leb, eqb}
-use borrow.Author.Tests.{eqb-true, eqb-false, leb-true, ne-eqb}
+use borrow.Author.Tests.{ne-eqb}
 use native.Mathlib.Omega.{arith}
 use Rattle.rules.specs.Calls.{Counter, C-BR-1, C-R-1, C-PDP-1, C-PDP-2, C-PDP-3, C-PDP-4}
-use Rattle.rules.specs.Tables.{four, six, ofSix, oneMore, raises}
-use Rattle.rules.specs.Rules.{idle, counted, asked}
+use Rattle.rules.specs.Tables.{four, six, ofSix, among, counting, oneMore, raises}
+use Rattle.rules.specs.Rules.{counted, asked}
+use Rattle.rules.specs.State.{idle}
 use Rattle.rules.specs.Record.{standsAsked}
+use Rattle.rules.proofs.Among.{among-all, among-none}
 
 pub of-four : (f : ℕ → ℕ) (s : ℕ) → s ≤ 3 → getD (four f) s 0 ≡ f s
 of-four f zero h = refl
@@ -99,24 +101,11 @@ asked-four q f = go (leb q 3) (eqb q 4)
 
 pub counted-six : (n : ℕ) (f : Counter → ℕ) → counted n (six f) ≡ six (λ k. cond (raises k n) (oneMore (f k)) (f k))
 unfolding counted
-counted-six n f = go (eqb n 11) (eqb n 13) (eqb n 14) (eqb n 15) (eqb n 16) refl refl refl refl refl
+counted-six n f = go (among n counting) refl
   where
     P : ℕ → Type 0
     P m = counted m (six f) ≡ six (λ k. cond (raises k m) (oneMore (f k)) (f k))
 
-    is : (m : ℕ) → eqb n m ≡ true → P m → P n
-    is m e h = subst (λ (x : ℕ). P x) (sym (eqb-true n m e)) h
-
-    go : (x11 x13 x14 x15 x16 : Bool) → eqb n 11 ≡ x11 → eqb n 13 ≡ x13 → eqb n 14 ≡ x14 → eqb n 15 ≡ x15 → eqb n 16 ≡ x16 → P n
-    go true x13 x14 x15 x16 e11 e13 e14 e15 e16 = is 11 e11 refl
-    go false true x14 x15 x16 e11 e13 e14 e15 e16 = is 13 e13 refl
-    go false false true x15 x16 e11 e13 e14 e15 e16 = is 14 e14 refl
-    go false false false true x16 e11 e13 e14 e15 e16 = is 15 e15 refl
-    go false false false false true e11 e13 e14 e15 e16 = is 16 e16 refl
-    go false false false false false e11 e13 e14 e15 e16 = rw (e11, e13, e14, e15, e16, other (leb 13 n) (leb n 16) refl refl)
-      where
-        other : (x y : Bool) → leb 13 n ≡ x → leb n 16 ≡ y → (leb 13 n && leb n 16) ≡ false
-        other false y p q = rw p
-        other true false p q = rw (p, q)
-        other true true p q =
-            absurd (omega (arith, leb-true 13 n p, leb-true n 16 q, eqb-false n 13 e13, eqb-false n 14 e14, eqb-false n 15 e15, eqb-false n 16 e16))
+    go : (b : Bool) → among n counting ≡ b → P n
+    go true e = among-all P n counting (refl, (refl, (refl, (refl, (refl, tt))))) e
+    go false e = let no = among-none n counting e in rw (e, no .0, no .1 .0, no .1 .1 .0, no .1 .1 .1 .0, no .1 .1 .1 .1 .0)

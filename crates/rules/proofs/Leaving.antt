@@ -10,7 +10,8 @@ use lib.ListN.{length, getD, drop, length-drop}
 use borrow.Author.Tests.{leb-true, leb-false, le-leb, ltb-true, lt-ltb, le-ltb}
 use Rattle.rules.specs.Tables.{inHour, fromNewest}
 use Rattle.rules.specs.Leaves.{Leaves}
-use Rattle.rules.specs.Rules.{State, Limit, blocks}
+use Rattle.rules.specs.Rules.{Limit, blocks}
+use Rattle.rules.specs.State.{State}
 use Rattle.rules.proofs.Newest.{Rising, rising-le, rising-more, within-true, few, all-in, blocks-full}
 use Rattle.rules.proofs.Hour.{rolling-hour}
 

@@ -1,4 +1,5 @@
 pub mod Leaks
+pub mod Among
 pub mod Checks
 pub mod Groups
 pub mod RecordTells

@@ -9,10 +9,11 @@ use lib.Dec.{ltb, leb, eqb}
 use borrow.Author.Tests.{ltb-true, leb-true, lt-ltb, le-leb, eqb-true}
 use native.Mathlib.Omega.{arith}
 use Rattle.rules.specs.declared.Answer.{Answer}
-use Rattle.rules.specs.Calls.{Given, Event, ask, granted, silent, rejected, dropped, tick, Line, nfm, nfm-start, intervals, query, bad, Call, timed, typed, answer}
+use Rattle.rules.specs.Calls.{Event, ask, outcome, granted, silent, rejected, dropped, tick, Line, nfm, nfm-start, intervals, query, bad, Call, timed, typed, answer}
 use Rattle.rules.specs.Tables.{within, inHour, fromNewest, ascending, Kind}
-use Rattle.rules.specs.Rules.{State, Facts, Limit, limits, blocks, firstBlock, refusal, verdict, ruling, refused, moved, acted, switched, obeyed, changed, onto, adds, learn}
-use Rattle.rules.specs.Rules.{fresh, known, answers, newest, short, step, held, heldAnswers}
+use Rattle.rules.specs.Rules.{Limit, limits, blocks, firstBlock, refusal, verdict, ruling, refused, moved, acted, switched, obeyed, changed, enters, adds, learn}
+use Rattle.rules.specs.State.{State, Facts}
+use Rattle.rules.specs.Rules.{known, answers, newest, short, step, held, heldAnswers}
 use Rattle.rules.specs.Demand3.{Bytes}
 use Rattle.rules.proofs.Checks.{and-left, and-right, accepted, on-time, refused-adds}
 
@@ -173,9 +174,9 @@ cond-same false x y z h = refl
 verdict-same : (w : State) → Sound w → (c : Call) → refusal (w .facts) c ≡ 0 → verdict (short w) c ≡ verdict w c
 unfolding verdict short
 verdict-same w s (timed t (ask q)) p = ask-same w s t (on-time (w .facts) t (ask q) p) q
-verdict-same w s (timed t (granted _)) p = refl
-verdict-same w s (timed t (silent _)) p = refl
-verdict-same w s (timed t (rejected _ _ _)) p = refl
+verdict-same w s (timed t (outcome _ granted)) p = refl
+verdict-same w s (timed t (outcome _ silent)) p = refl
+verdict-same w s (timed t (outcome _ (rejected _ _))) p = refl
 verdict-same w s (timed t dropped) p = refl
 verdict-same w s (timed t tick) p = refl
 verdict-same w s (typed (nfm _)) p = refl
@@ -204,9 +205,7 @@ learn-same w c a i = record {
 pub acted-keeps : (t : ℕ) (e : Event) (a : Answer) (f : Facts) → (acted t e a f .opening ≡ f .opening) × (acted t e a f .last ≡ f .last)
 unfolding acted
 acted-keeps t (ask _) a f = (refl, refl)
-acted-keeps t (granted _) a f = (refl, refl)
-acted-keeps t (silent _) a f = (refl, refl)
-acted-keeps t (rejected _ _ _) a f = (refl, refl)
+acted-keeps t (outcome _ _) a f = (refl, refl)
 acted-keeps t dropped a f = (refl, refl)
 acted-keeps t tick a f = (refl, refl)
 
@@ -229,7 +228,7 @@ module _ (w : State) (s : Sound w) (a : Answer) where
       let keeps = acted-keeps t e a (moved t (w .facts)) in
       record {
         bytes = rw (keeps .0) (s .bytes);
-        rising = λ k. rw (keeps .0, keeps .1) (rising-added _ _ t (w .lists k) (eqb (a .number) 0 && onto e k) (s .rising k) (on-time (w .facts) t e p));
+        rising = λ k. rw (keeps .0, keeps .1) (rising-added _ _ t (w .lists k) (enters e (a .number) k) (s .rising k) (on-time (w .facts) t e p));
       }
   sound-changed (typed l) p =
       let keeps = obeyed-keeps l (w .facts) in
@@ -264,30 +263,22 @@ held-same : (w : State) → Sound w → (cs : List Call) → held (short w) cs �
 held-same w s [] = refl
 held-same w s (c ∷ cs) = rw (step-same w s c) (held-same (learn w c (ruling w c)) (sound-learn w s c) cs)
 
--- ---- From an opening
+-- ---- From a start
 
-pub fresh-sound : (g : Given) → Bytes (g .opening) → Sound (fresh g)
-unfolding fresh
-fresh-sound g b = record { bytes = b; rising = λ k. omega arith }
-
-pub fresh-short : (g : Given) → short (fresh g) ≡ fresh g
-unfolding fresh short newest
-fresh-short g = refl
-
-pub record Bounded (g : Given) (cs : List Call) : Type 0 where
+-- a start that a buffer can stand for: sound, and no list longer than 255
+pub record Bounded (g : State) (cs : List Call) : Type 0 where
   -- the answers to the calls are those that the full lists give
-  pub same-answers : heldAnswers (fresh g) cs ≡ answers (fresh g) cs
+  pub same-answers : heldAnswers g cs ≡ answers g cs
   -- and what is held is what is known, each list cut to its newest 255
-  pub same-state : held (fresh g) cs ≡ short (known (fresh g) cs)
+  pub same-state : held g cs ≡ short (known g cs)
   -- so the next call, whatever it is, is answered the same
-  pub next : (c : Call) → ruling (held (fresh g) cs) c ≡ ruling (known (fresh g) cs) c
+  pub next : (c : Call) → ruling (held g cs) c ≡ ruling (known g cs) c
 
-pub bounded : (g : Given) → Bytes (g .opening) → (cs : List Call) → Bounded g cs
-bounded g b cs =
-    let s = fresh-sound g b in
-    let e : held (fresh g) cs ≡ short (known (fresh g) cs) = rw (fresh-short g) at (held-same (fresh g) s cs) in
+pub bounded : (g : State) → Sound g → short g ≡ g → (cs : List Call) → Bounded g cs
+bounded g s f cs =
+    let e : held g cs ≡ short (known g cs) = rw f at (held-same g s cs) in
     record {
-      same-answers = rw (fresh-short g) at (answers-same (fresh g) s cs);
+      same-answers = rw f at (answers-same g s cs);
       same-state = e;
-      next = λ c. rw e (ruling-same (known (fresh g) cs) (known-sound (fresh g) s cs) c);
+      next = λ c. rw e (ruling-same (known g cs) (known-sound g s cs) c);
     }

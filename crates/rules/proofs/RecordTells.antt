@@ -4,14 +4,16 @@ use mathlib.Core.Path.{_≡_, refl, sym, ap, _∙_}
 use mathlib.Core.Bool.{Bool, true, false, cond, _&&_}
 use mathlib.Core.List.{List, [], _∷_, _++_, append-nil}
 use lib.Dec.{eqb}
+use lib.ListN.{getD}
 use borrow.Author.Tests.{eqb-true}
 use native.Mathlib.Nat.{sub-self}
 use native.Mathlib.Omega.{arith}
 use Rattle.rules.specs.declared.Answer.{Answer}
-use Rattle.rules.specs.Calls.{Opening, Given, Counter, Event, ask, granted, silent, rejected, dropped, tick, Line, nfm, nfm-start, intervals, query, bad, Call, timed, typed, Entry, entry}
-use Rattle.rules.specs.Tables.{Kind, waitFor, moodOn, four, six, rateOf}
+use Rattle.rules.specs.Calls.{Opening, Counter, Event, ask, outcome, granted, silent, rejected, dropped, tick, Line, nfm, nfm-start, intervals, query, bad, Call, timed, typed, Entry, entry}
+use Rattle.rules.specs.Tables.{Kind, waitFor, moodOn, four, six, ofSix, rateOf}
 use Rattle.rules.specs.Record.{lastTime, nfmNow, startNow, intervalsNow, permitIn, permits, inARow, failures, backOffEnd, standsAsked, standing, mood, leaked, counter}
-use Rattle.rules.specs.Rules.{State, Facts, Mode, withServices, refusal, refused, wait, points, moved, idle, onGranted, onFailed, acted, switched, obeyed, changed, onto, adds, learn, fresh, known}
+use Rattle.rules.specs.Rules.{refusal, refused, wait, points, moved, onGranted, onFailed, onOutcome, acted, switched, obeyed, changed, enters, adds, learn, known}
+use Rattle.rules.specs.State.{State, Facts, Mode, withServices, idle}
 use Rattle.rules.specs.Rules.{answers, counted}
 use Rattle.rules.specs.Told.{tells, ruled, entered, onward, ruledAll, told, AsTold}
 use Rattle.rules.proofs.Checks.{accepted, on-time, refused-adds, silent-wait, rejected-wait}
@@ -25,19 +27,15 @@ factsOf o m l c f e s d = record { opening = o; mode = m; last = l; counters = c
 facts-path : {c c′ f f′ e e′ s s′ : List ℕ} (o : Opening) (m : Mode) (l d : ℕ) → c ≡ c′ → f ≡ f′ → e ≡ e′ → s ≡ s′ → factsOf o m l c f e s d ≡ factsOf o m l c′ f′ e′ s′ d
 facts-path o m l d p q r z i = factsOf o m l (p i) (q i) (r i) (z i) d
 
-none : (b : Bool) (t : ℕ) → cond (b && false) (t ∷ []) [] ≡ []
-none true t = refl
-none false t = refl
-
-module _ (g : Given) (past : List Entry) where
+module _ (g : State) (past : List Entry) where
   o : Opening
-  o = g .opening
+  o = g .facts .opening
 
   old : ℕ
   old = lastTime g past
 
   mode : Mode
-  mode = record { nfm = nfmNow g past; start = startNow past; intervals = intervalsNow g past }
+  mode = record { nfm = nfmNow g past; start = startNow g past; intervals = intervalsNow g past }
 
   -- counter k when the clock goes to t
   left : ℕ → Counter → ℕ
@@ -58,19 +56,19 @@ module _ (g : Given) (past : List Entry) where
 
   module _ (t : ℕ) (a : Answer) (late : old ≤ t) where
     ask-tells : (q : ℕ) → acted t (ask q) a (moved t (tells g past .facts)) ≡ tells g (entry (timed t (ask q)) a ∷ past) .facts
-    unfolding acted moved tells lastTime nfmNow startNow intervalsNow inARow failures backOffEnd standing mood counter left old o mode
+    unfolding acted onOutcome moved tells lastTime nfmNow startNow intervalsNow inARow failures backOffEnd standing mood counter left old o mode
     ask-tells q =
-        facts-path o mode t (mood past) (ap (counted (a .number)) (drained-all t late) ∙ counted-six (a .number) (left t)) refl refl
-        (ap (λ (l : List ℕ). cond (eqb (a .number) 0) l (four (λ s. standing s past))) (asked-four q (λ s. standing s past))
-        ∙ four-cond (eqb (a .number) 0) (λ s. standsAsked s q (standing s past)) (λ s. standing s past))
+        facts-path o mode t (mood g past) (ap (counted (a .number)) (drained-all t late) ∙ counted-six (a .number) (left t)) refl refl
+        (ap (λ (l : List ℕ). cond (eqb (a .number) 0) l (four (λ s. standing g s past))) (asked-four q (λ s. standing g s past))
+        ∙ four-cond (eqb (a .number) 0) (λ s. standsAsked s q (standing g s past)) (λ s. standing g s past))
 
-    granted-tells : (u : ℕ) → acted t (granted u) a (moved t (tells g past .facts)) ≡ tells g (entry (timed t (granted u)) a ∷ past) .facts
-    unfolding acted moved tells lastTime nfmNow startNow intervalsNow inARow failures backOffEnd standing mood counter left old o mode onGranted
+    granted-tells : (u : ℕ) → acted t (outcome u granted) a (moved t (tells g past .facts)) ≡ tells g (entry (timed t (outcome u granted)) a ∷ past) .facts
+    unfolding acted onOutcome moved tells lastTime nfmNow startNow intervalsNow inARow failures backOffEnd standing mood counter left old o mode onGranted
     granted-tells u =
-        facts-path o mode t (cond (eqb u 2) 0 (mood past)) (drained-all t late)
-        (failures-cleared u (λ s. inARow s past))
+        facts-path o mode t (cond (eqb u 2) 0 (mood g past)) (drained-all t late)
+        (failures-cleared u (λ s. inARow g s past))
         (set-four (λ s. 0) (λ s. backOffEnd g s past) (λ n. 0) u)
-        (set-four (λ s. 0) (λ s. standing s past) (λ n. cond (eqb u 2) 2 0) u)
+        (set-four (λ s. 0) (λ s. standing g s past) (λ n. cond (eqb u 2) 2 0) u)
 
     -- silence and rejection, whose answer 20 carries the wait; d is service 2's mood
     module _ (u : ℕ) (waited : eqb (a .number) 20 ≡ true → a .second ≡ wait (tells g past .facts) u) where
@@ -78,35 +76,35 @@ module _ (g : Given) (past : List Entry) where
       again s = eqb (a .number) 20 && eqb u s
 
       row : ℕ → ℕ
-      row s = cond (again s) (suc (inARow s past)) (inARow s past)
+      row s = cond (again s) (suc (inARow g s past)) (inARow g s past)
 
       failed-tells : (d : ℕ) → withServices (moved t (tells g past .facts)) (onFailed t u a d (tells g past .facts .services))
           ≡ factsOf o mode t (six (left t)) (four (λ s. min (row s) 255))
           (four (λ s. cond (again s) (t + waitFor (o .imsi) (intervalsNow g past) (min (row s) 255)) (backOffEnd g s past)))
-          (four (λ s. cond (eqb u s) 0 (standing s past))) (cond (eqb u 2) d (mood past))
+          (four (λ s. cond (eqb u s) 0 (standing g s past))) (cond (eqb u 2) d (mood g past))
       unfolding moved tells failures left old o mode onFailed wait again row
       failed-tells d =
-          facts-path o mode t (cond (eqb u 2) d (mood past)) (drained-all t late)
-          (failures-more (eqb (a .number) 20) u (λ s. inARow s past))
-          (ends-more (eqb (a .number) 20) u (λ s. inARow s past) (λ s. backOffEnd g s past) (waitFor (o .imsi) (intervalsNow g past)) t (a .second) waited)
-          (set-four (λ s. 0) (λ s. standing s past) (λ n. 0) u)
+          facts-path o mode t (cond (eqb u 2) d (mood g past)) (drained-all t late)
+          (failures-more (eqb (a .number) 20) u (λ s. inARow g s past))
+          (ends-more (eqb (a .number) 20) u (λ s. inARow g s past) (λ s. backOffEnd g s past) (waitFor (o .imsi) (intervalsNow g past)) t (a .second) waited)
+          (set-four (λ s. 0) (λ s. standing g s past) (λ n. 0) u)
 
-      silent-tells : acted t (silent u) a (moved t (tells g past .facts)) ≡ tells g (entry (timed t (silent u)) a ∷ past) .facts
-      unfolding acted moved tells lastTime nfmNow startNow intervalsNow inARow failures backOffEnd standing mood counter left old o mode again row
+      silent-tells : acted t (outcome u silent) a (moved t (tells g past .facts)) ≡ tells g (entry (timed t (outcome u silent)) a ∷ past) .facts
+      unfolding acted onOutcome moved tells lastTime nfmNow startNow intervalsNow inARow failures backOffEnd standing mood counter left old o mode again row
       silent-tells = failed-tells 1
 
-      rejected-tells : (cause second : ℕ) → acted t (rejected u cause second) a (moved t (tells g past .facts))
-          ≡ tells g (entry (timed t (rejected u cause second)) a ∷ past) .facts
-      unfolding acted moved tells lastTime nfmNow startNow intervalsNow inARow failures backOffEnd standing mood counter left old o mode again row
+      rejected-tells : (cause second : ℕ) → acted t (outcome u (rejected cause second)) a (moved t (tells g past .facts))
+          ≡ tells g (entry (timed t (outcome u (rejected cause second))) a ∷ past) .facts
+      unfolding acted onOutcome moved tells lastTime nfmNow startNow intervalsNow inARow failures backOffEnd standing mood counter left old o mode again row
       rejected-tells cause second = failed-tells (moodOn cause)
 
     dropped-tells : acted t dropped a (moved t (tells g past .facts)) ≡ tells g (entry (timed t dropped) a ∷ past) .facts
-    unfolding acted moved tells lastTime nfmNow startNow intervalsNow inARow failures backOffEnd standing mood counter left old o mode
-    dropped-tells = facts-path o mode t (mood past) (drained-all t late) refl refl (set-four (λ s. 0) (λ s. standing s past) (λ n. 0) 2)
+    unfolding acted onOutcome moved tells lastTime nfmNow startNow intervalsNow inARow failures backOffEnd standing mood counter left old o mode
+    dropped-tells = facts-path o mode t (mood g past) (drained-all t late) refl refl (set-four (λ s. 0) (λ s. standing g s past) (λ n. 0) 2)
 
     tick-tells : acted t tick a (moved t (tells g past .facts)) ≡ tells g (entry (timed t tick) a ∷ past) .facts
-    unfolding acted moved tells lastTime nfmNow startNow intervalsNow inARow failures backOffEnd standing mood counter left old o mode
-    tick-tells = facts-path o mode t (mood past) (drained-all t late) refl refl refl
+    unfolding acted onOutcome moved tells lastTime nfmNow startNow intervalsNow inARow failures backOffEnd standing mood counter left old o mode
+    tick-tells = facts-path o mode t (mood g past) (drained-all t late) refl refl refl
 
   -- ---- An AT line that was answered a
 
@@ -118,24 +116,24 @@ module _ (g : Given) (past : List Entry) where
   module _ (a : Answer) where
     switched-tells : (b s : ℕ) → switched b s (tells g past .facts)
         ≡ factsOf o (record { nfm = b; start = s; intervals = intervalsNow g past }) old (six (left old))
-        (four (λ s. min (cond (eqb b 0) 0 (inARow s past)) 255)) (four (λ s. cond (eqb b 0) 0 (backOffEnd g s past))) (four (λ s. standing s past)) (mood past)
+        (four (λ s. min (cond (eqb b 0) 0 (inARow g s past)) 255)) (four (λ s. cond (eqb b 0) 0 (backOffEnd g s past))) (four (λ s. standing g s past)) (mood g past)
     unfolding switched tells failures old o
     switched-tells b s = go (eqb b 0)
       where
         go : (x : Bool) → factsOf o (record { nfm = b; start = s; intervals = intervalsNow g past }) old (six (λ k. counter g k past))
-            (cond x idle (four (λ s. min (inARow s past) 255))) (cond x idle (four (λ s. backOffEnd g s past))) (four (λ s. standing s past)) (mood past)
+            (cond x idle (four (λ s. min (inARow g s past) 255))) (cond x idle (four (λ s. backOffEnd g s past))) (four (λ s. standing g s past)) (mood g past)
             ≡ factsOf o (record { nfm = b; start = s; intervals = intervalsNow g past }) old (six (left old))
-            (four (λ s. min (cond x 0 (inARow s past)) 255)) (four (λ s. cond x 0 (backOffEnd g s past))) (four (λ s. standing s past)) (mood past)
-        go true = facts-path o _ old (mood past) (six-path still) refl refl refl
-        go false = facts-path o _ old (mood past) (six-path still) refl refl refl
+            (four (λ s. min (cond x 0 (inARow g s past)) 255)) (four (λ s. cond x 0 (backOffEnd g s past))) (four (λ s. standing g s past)) (mood g past)
+        go true = facts-path o _ old (mood g past) (six-path still) refl refl refl
+        go false = facts-path o _ old (mood g past) (six-path still) refl refl refl
 
     line-tells : (l : Line) → obeyed l (tells g past .facts) ≡ tells g (entry (typed l) a ∷ past) .facts
     unfolding obeyed tells lastTime nfmNow startNow intervalsNow inARow failures backOffEnd standing mood counter left old o mode
-    line-tells (nfm b) = switched-tells b (startNow past)
+    line-tells (nfm b) = switched-tells b (startNow g past)
     line-tells (nfm-start b s) = switched-tells b s
-    line-tells (intervals l) = facts-path o (record { nfm = nfmNow g past; start = startNow past; intervals = l }) old (mood past) (six-path still) refl refl refl
-    line-tells query = facts-path o mode old (mood past) (six-path still) refl refl refl
-    line-tells bad = facts-path o mode old (mood past) (six-path still) refl refl refl
+    line-tells (intervals l) = facts-path o (record { nfm = nfmNow g past; start = startNow g past; intervals = l }) old (mood g past) (six-path still) refl refl refl
+    line-tells query = facts-path o mode old (mood g past) (six-path still) refl refl refl
+    line-tells bad = facts-path o mode old (mood g past) (six-path still) refl refl refl
 
   -- ---- The call's own answer
 
@@ -145,9 +143,9 @@ module _ (g : Given) (past : List Entry) where
   event-tells : (t : ℕ) (e : Event) → old ≤ t
       → acted t e (ruled g past (timed t e)) (moved t (tells g past .facts)) ≡ tells g (entry (timed t e) (ruled g past (timed t e)) ∷ past) .facts
   event-tells t (ask q) h = ask-tells t _ h q
-  event-tells t (granted u) h = granted-tells t _ h u
-  event-tells t (silent u) h = silent-tells t _ h u (waited u _ (silent-wait (tells g past) t u))
-  event-tells t (rejected u cause second) h = rejected-tells t _ h u (waited u _ (rejected-wait (tells g past) t u cause second)) cause second
+  event-tells t (outcome u granted) h = granted-tells t _ h u
+  event-tells t (outcome u silent) h = silent-tells t _ h u (waited u _ (silent-wait (tells g past) t u))
+  event-tells t (outcome u (rejected cause second)) h = rejected-tells t _ h u (waited u _ (rejected-wait (tells g past) t u cause second)) cause second
   event-tells t dropped h = dropped-tells t _ h
   event-tells t tick h = tick-tells t _ h
 
@@ -162,13 +160,11 @@ module _ (g : Given) (past : List Entry) where
 
   -- what a call adds to list k
   added : (k : Kind) (c : Call) (a : Answer) → adds k c a ≡ permitIn k c (a .number)
-  unfolding adds onto
+  unfolding adds enters
   added k (timed t (ask q)) a = refl
-  added k (timed t (granted u)) a = none (eqb (a .number) 0) t
-  added k (timed t (silent u)) a = none (eqb (a .number) 0) t
-  added k (timed t (rejected u cause second)) a = none (eqb (a .number) 0) t
-  added k (timed t dropped) a = none (eqb (a .number) 0) t
-  added k (timed t tick) a = none (eqb (a .number) 0) t
+  added k (timed t (outcome u o)) a = refl
+  added k (timed t dropped) a = refl
+  added k (timed t tick) a = refl
   added k (typed l) a = refl
 
   -- one call: what was known and is learned from its answer is what the record tells that has the call
@@ -181,45 +177,55 @@ module _ (g : Given) (past : List Entry) where
 
       go : (b : Bool) → refused a ≡ b
           → record { facts = cond b (tells g past .facts) (changed c a (tells g past .facts)); lists = λ k. tells g past .lists k ++ adds k c a } ≡ tells g (cond b past (entry c a ∷ past))
-      go true e = λ i. record { facts = tells g past .facts; lists = λ k. (ap (λ (l : List ℕ). permits k past ++ l) (refused-adds k c a e) ∙ append-nil (permits k past)) i }
-      go false e = λ i. record { facts = call-tells c e i; lists = λ k. permits k past ++ added k c a i }
+      go true e = λ i. record { facts = tells g past .facts; lists = λ k. (ap (λ (l : List ℕ). permits g k past ++ l) (refused-adds k c a e) ∙ append-nil (permits g k past)) i }
+      go false e = λ i. record { facts = call-tells c e i; lists = λ k. permits g k past ++ added k c a i }
 
 -- ---- The theorem: after any calls
 
-fresh-tells : (g : Given) → fresh g ≡ tells g []
-unfolding fresh tells lastTime nfmNow startNow intervalsNow permits inARow failures backOffEnd standing mood counter
-fresh-tells g = refl
+-- what a record begins with: four of each service's numbers, failures to 255 at most, six counters
+pub record Begins (g : State) : Type 0 where
+  pub counters : six (ofSix (g .facts .counters)) ≡ g .facts .counters
+  pub failures : four (λ s. min (getD (g .facts .services .failures) s 0) 255) ≡ g .facts .services .failures
+  pub ends : four (λ s. getD (g .facts .services .ends) s 0) ≡ g .facts .services .ends
+  pub standing : four (λ s. getD (g .facts .services .standing) s 0) ≡ g .facts .services .standing
 
-onward-tells : (g : Given) (past : List Entry) (cs : List Call) → known (tells g past) cs ≡ tells g (onward g past cs)
+start-tells : (g : State) → Begins g → tells g [] ≡ g
+unfolding tells lastTime nfmNow startNow intervalsNow permits inARow failures backOffEnd standing mood counter
+start-tells g b i = record {
+  facts = facts-path (g .facts .opening) (g .facts .mode) (g .facts .last) (g .facts .services .mood) (b .counters) (b .failures) (b .ends) (b .standing) i;
+  lists = g .lists;
+}
+
+onward-tells : (g : State) (past : List Entry) (cs : List Call) → known (tells g past) cs ≡ tells g (onward g past cs)
 onward-tells g past [] = refl
 onward-tells g past (c ∷ cs) = ap (λ (w : State). known w cs) (learned g past c) ∙ onward-tells g (entered c (ruled g past c) past) cs
 
-pub known-tells : (g : Given) (cs : List Call) → known (fresh g) cs ≡ tells g (told g cs)
-known-tells g cs = rw (fresh-tells g) (onward-tells g [] cs)
+pub known-tells : (g : State) → Begins g → (cs : List Call) → known g cs ≡ tells g (told g cs)
+known-tells g b cs = rw (start-tells g b) at (onward-tells g [] cs)
 
-onward-answers : (g : Given) (past : List Entry) (cs : List Call) → answers (tells g past) cs ≡ ruledAll g past cs
+onward-answers : (g : State) (past : List Entry) (cs : List Call) → answers (tells g past) cs ≡ ruledAll g past cs
 onward-answers g past [] = refl
 onward-answers g past (c ∷ cs) =
     ap (λ (l : List Answer). ruled g past c ∷ l)
     (ap (λ (w : State). answers w cs) (learned g past c) ∙ onward-answers g (entered c (ruled g past c) past) cs)
 
-pub answers-told : (g : Given) (cs : List Call) → answers (fresh g) cs ≡ ruledAll g [] cs
-answers-told g cs = rw (fresh-tells g) (onward-answers g [] cs)
+pub answers-told : (g : State) → Begins g → (cs : List Call) → answers g cs ≡ ruledAll g [] cs
+answers-told g b cs = rw (start-tells g b) at (onward-answers g [] cs)
 
 -- thing by thing
-pub as-told : (g : Given) (cs : List Call) → AsTold g cs
+pub as-told : (g : State) → Begins g → (cs : List Call) → AsTold g cs
 unfolding tells
-as-told g cs =
-    let e = known-tells g cs in
+as-told g b cs =
+    let e = known-tells g b cs in
     record {
       last = rw e;
       nfm = rw e;
       start-timer = rw e;
       base-intervals = rw e;
       permit-times = λ k. rw e;
-      failures-in-a-row = λ s h. rw e (of-four (λ u. failures u (told g cs)) s h);
+      failures-in-a-row = λ s h. rw e (of-four (λ u. failures g u (told g cs)) s h);
       ends = λ s h. rw e (of-four (λ u. backOffEnd g u (told g cs)) s h);
-      standings = λ s h. rw e (of-four (λ u. standing u (told g cs)) s h);
+      standings = λ s h. rw e (of-four (λ u. standing g u (told g cs)) s h);
       pdp-mood = rw e;
       counters = λ k. rw e (of-six (λ j. counter g j (told g cs)) k);
     }

@@ -2,6 +2,12 @@
 use Prim.Native.Nat.{ℕ}
 use mathlib.Core.List.{List}
 use Rattle.rules.specs.declared.Answer.{Answer}
+-- what became of a request: granted, no answer, or rejected with a cause and whether a second network exists, 1 where one does
+pub use Rattle.rules.specs.declared.Outcome.{Outcome}
+pub use Rattle.rules.specs.declared.Outcome.the-variants.{Granted as granted, Silent as silent, Rejected as rejected}
+-- what happens at a time: request q, an outcome of service s, service 2 dropped, or nothing but the clock
+pub use Rattle.rules.specs.declared.Event.{Event}
+pub use Rattle.rules.specs.declared.Event.the-variants.{Ask as ask, Outcome as outcome, Dropped as dropped, Tick as tick}
 
 -- ---- Opening
 
@@ -22,27 +28,11 @@ pub record Opening : Type 0 where
   pub LR2 : ℕ
   pub LR3 : ℕ
 
--- all that opening is given: later calls change NFM, the intervals and the card's six counters
-pub record Given : Type 0 where
-  pub opening : Opening
-  pub nfm : ℕ
-  pub intervals : List ℕ
-  pub counters : List ℕ
-
 -- the card's counters, in the order of places 44-49
 pub data Counter : Type 0 where
   C-BR-1 C-R-1 C-PDP-1 C-PDP-2 C-PDP-3 C-PDP-4 : Counter
 
--- ---- Calls
-
--- what happens at a time: request q, an outcome of service s, service 2 dropped, or nothing but the clock
-pub data Event : Type 0 where
-  ask : (q : ℕ) → Event
-  granted : (s : ℕ) → Event
-  silent : (s : ℕ) → Event
-  rejected : (s cause second : ℕ) → Event
-  dropped : Event
-  tick : Event
+-- ---- Calls: what happens at a time, which is an enum of the code, or an AT line
 
 -- an AT line as it was read: AT+NFM=a, AT+NFM=a,s, AT+NFMCI=l, AT+NFM=?, and any other
 pub data Line : Type 0 where

@@ -1,5 +1,6 @@
 pub mod Calls
 pub mod Tables
+pub mod State
 pub mod Leaves
 pub mod Record
 pub mod Rules

@@ -1,24 +1,26 @@
--- What the record tells. The record is the list of the accepted calls since the opening, each with its answer, the newest first; each
--- thing that it tells is read straight off it, by itself. Assumes nothing.
+-- What the record tells. The record is the list of the accepted calls since its start, each with its answer, the newest first; each thing that
+-- it tells is read straight off it, by itself, and before any call off the start: a new buffer, or what a good one holds. Assumes nothing.
 use Prim.Native.Nat.{ℕ, zero, suc, _+_, _-_, _*_, _%_, min}
 use mathlib.Core.Bool.{Bool, false, cond, _&&_}
 use mathlib.Core.List.{List, [], _∷_, _++_}
+use lib.ListN.{getD}
 use lib.Dec.{ltb, leb, eqb}
-use Rattle.rules.specs.Calls.{Given, Counter, ask, granted, silent, rejected, dropped, tick, nfm, nfm-start, intervals, query, bad, Call, timed, typed, Entry}
+use Rattle.rules.specs.Calls.{Counter, ask, outcome, granted, silent, rejected, dropped, tick, nfm, nfm-start, intervals, query, bad, Call, timed, typed, Entry}
+use Rattle.rules.specs.State.{State}
 use Rattle.rules.specs.Tables.{Kind, goes, moodOn, oneMore, waitFor, rateOf, raises, ofSix}
 
--- ---- The last time: that of the newest timed call, and before any the opening time
+-- ---- The last time: that of the newest timed call, and before any the start's
 
 -- the time of a timed call; an AT line leaves the time as it was
 abbrev pub timeOf : Call → ℕ → ℕ
 timeOf (timed t e) before = t
 timeOf (typed l) before = before
 
-unfoldable pub lastTime : Given → List Entry → ℕ
-lastTime g [] = g .opening .opened
+unfoldable pub lastTime : State → List Entry → ℕ
+lastTime g [] = g .facts .last
 lastTime g (x ∷ past) = timeOf (x .call) (lastTime g past)
 
--- ---- NFM, Start Timer and intervals: as the newest AT line that names them has them, and before any as the opening has them
+-- ---- NFM, Start Timer and intervals: as the newest AT line that names them has them, and before any as the start has them
 
 abbrev pub nfmAfter : Call → ℕ → ℕ
 nfmAfter (timed t e) before = before
@@ -28,8 +30,8 @@ nfmAfter (typed (intervals l)) before = before
 nfmAfter (typed query) before = before
 nfmAfter (typed bad) before = before
 
-unfoldable pub nfmNow : Given → List Entry → ℕ
-nfmNow g [] = g .nfm
+unfoldable pub nfmNow : State → List Entry → ℕ
+nfmNow g [] = g .facts .mode .nfm
 nfmNow g (x ∷ past) = nfmAfter (x .call) (nfmNow g past)
 
 -- without s, Start Timer stays
@@ -41,9 +43,9 @@ startAfter (typed (intervals l)) before = before
 startAfter (typed query) before = before
 startAfter (typed bad) before = before
 
-unfoldable pub startNow : List Entry → ℕ
-startNow [] = 0
-startNow (x ∷ past) = startAfter (x .call) (startNow past)
+unfoldable pub startNow : State → List Entry → ℕ
+startNow g [] = g .facts .mode .start
+startNow g (x ∷ past) = startAfter (x .call) (startNow g past)
 
 abbrev pub intervalsAfter : Call → List ℕ → List ℕ
 intervalsAfter (timed t e) before = before
@@ -53,33 +55,31 @@ intervalsAfter (typed (intervals l)) before = l
 intervalsAfter (typed query) before = before
 intervalsAfter (typed bad) before = before
 
-unfoldable pub intervalsNow : Given → List Entry → List ℕ
-intervalsNow g [] = g .intervals
+unfoldable pub intervalsNow : State → List Entry → List ℕ
+intervalsNow g [] = g .facts .mode .intervals
 intervalsNow g (x ∷ past) = intervalsAfter (x .call) (intervalsNow g past)
 
--- ---- The permits of list k, oldest first: the times of the requests that go there and were answered 0
+-- ---- The permits of list k, oldest first: the start's, and the times of the requests that go there and were answered 0
 
 abbrev pub permitIn : Kind → Call → ℕ → List ℕ
 permitIn k (timed t (ask q)) n = cond (eqb n 0 && goes q k) (t ∷ []) []
-permitIn k (timed t (granted s)) n = []
-permitIn k (timed t (silent s)) n = []
-permitIn k (timed t (rejected s cause second)) n = []
+permitIn k (timed t (outcome s o)) n = []
 permitIn k (timed t dropped) n = []
 permitIn k (timed t tick) n = []
 permitIn k (typed l) n = []
 
-unfoldable pub permits : Kind → List Entry → List ℕ
-permits k [] = []
-permits k (x ∷ past) = permits k past ++ permitIn k (x .call) (x .answer .number)
+unfoldable pub permits : State → Kind → List Entry → List ℕ
+permits g k [] = g .lists k
+permits g k (x ∷ past) = permits g k past ++ permitIn k (x .call) (x .answer .number)
 
 -- ---- Failures in a row and back-off end of service s
 
 -- a grant of the service, and AT+NFM=0, set both to 0
 abbrev pub clears : ℕ → Call → Bool
 clears s (timed t (ask q)) = false
-clears s (timed t (granted u)) = eqb u s
-clears s (timed t (silent u)) = false
-clears s (timed t (rejected u cause second)) = false
+clears s (timed t (outcome u granted)) = eqb u s
+clears s (timed t (outcome u silent)) = false
+clears s (timed t (outcome u (rejected cause second))) = false
 clears s (timed t dropped) = false
 clears s (timed t tick) = false
 clears s (typed (nfm a)) = eqb a 0
@@ -91,29 +91,29 @@ clears s (typed bad) = false
 -- silence or a rejection of the service that was answered 20: it backs off
 abbrev pub backsOff : ℕ → Call → ℕ → Bool
 backsOff s (timed t (ask q)) n = false
-backsOff s (timed t (granted u)) n = false
-backsOff s (timed t (silent u)) n = eqb n 20 && eqb u s
-backsOff s (timed t (rejected u cause second)) n = eqb n 20 && eqb u s
+backsOff s (timed t (outcome u granted)) n = false
+backsOff s (timed t (outcome u silent)) n = eqb n 20 && eqb u s
+backsOff s (timed t (outcome u (rejected cause second))) n = eqb n 20 && eqb u s
 backsOff s (timed t dropped) n = false
 backsOff s (timed t tick) n = false
 backsOff s (typed l) n = false
 
--- how often it has backed off since it was last cleared
-unfoldable pub inARow : ℕ → List Entry → ℕ
-inARow s [] = 0
-inARow s (x ∷ past) = cond (clears s (x .call)) 0 (cond (backsOff s (x .call) (x .answer .number)) (suc (inARow s past)) (inARow s past))
+-- how often it has backed off since it was last cleared, the start's failures among it
+unfoldable pub inARow : State → ℕ → List Entry → ℕ
+inARow g s [] = getD (g .facts .services .failures) s 0
+inARow g s (x ∷ past) = cond (clears s (x .call)) 0 (cond (backsOff s (x .call) (x .answer .number)) (suc (inARow g s past)) (inARow g s past))
 
 -- to 255 at most
-unfoldable pub failures : ℕ → List Entry → ℕ
-failures s past = min (inARow s past) 255
+unfoldable pub failures : State → ℕ → List Entry → ℕ
+failures g s past = min (inARow g s past) 255
 
--- the time of its newest back-off plus the wait at so many failures; 0 once it is cleared, and before any
-unfoldable pub backOffEnd : Given → ℕ → List Entry → ℕ
-backOffEnd g s [] = 0
+-- the time of its newest back-off plus the wait at so many failures; 0 once it is cleared; before any the start's
+unfoldable pub backOffEnd : State → ℕ → List Entry → ℕ
+backOffEnd g s [] = getD (g .facts .services .ends) s 0
 backOffEnd g s (x ∷ past) =
     cond (clears s (x .call)) 0
     (cond (backsOff s (x .call) (x .answer .number))
-    (timeOf (x .call) 0 + waitFor (g .opening .imsi) (intervalsNow g past) (failures s (x ∷ past)))
+    (timeOf (x .call) 0 + waitFor (g .facts .opening .imsi) (intervalsNow g past) (failures g s (x ∷ past)))
     (backOffEnd g s past))
 
 -- ---- The standing of service s: 0 idle, 1 asked, 2 up
@@ -124,31 +124,31 @@ standsAsked s q before = cond (leb q 3) (cond (eqb q s) 1 before) (cond (eqb q 4
 
 abbrev pub standsAfter : ℕ → Call → ℕ → ℕ → ℕ
 standsAfter s (timed t (ask q)) n before = cond (eqb n 0) (standsAsked s q before) before
-standsAfter s (timed t (granted u)) n before = cond (eqb u s) (cond (eqb u 2) 2 0) before
-standsAfter s (timed t (silent u)) n before = cond (eqb u s) 0 before
-standsAfter s (timed t (rejected u cause second)) n before = cond (eqb u s) 0 before
+standsAfter s (timed t (outcome u granted)) n before = cond (eqb u s) (cond (eqb u 2) 2 0) before
+standsAfter s (timed t (outcome u silent)) n before = cond (eqb u s) 0 before
+standsAfter s (timed t (outcome u (rejected cause second))) n before = cond (eqb u s) 0 before
 standsAfter s (timed t dropped) n before = cond (eqb 2 s) 0 before
 standsAfter s (timed t tick) n before = before
 standsAfter s (typed l) n before = before
 
-unfoldable pub standing : ℕ → List Entry → ℕ
-standing s [] = 0
-standing s (x ∷ past) = standsAfter s (x .call) (x .answer .number) (standing s past)
+unfoldable pub standing : State → ℕ → List Entry → ℕ
+standing g s [] = getD (g .facts .services .standing) s 0
+standing g s (x ∷ past) = standsAfter s (x .call) (x .answer .number) (standing g s past)
 
 -- ---- The PDP mood: 0 clear, 1 ignored, 2 permanent, 3 temporary
 
 abbrev pub moodAfter : Call → ℕ → ℕ
 moodAfter (timed t (ask q)) before = before
-moodAfter (timed t (granted s)) before = cond (eqb s 2) 0 before
-moodAfter (timed t (silent s)) before = cond (eqb s 2) 1 before
-moodAfter (timed t (rejected s cause second)) before = cond (eqb s 2) (moodOn cause) before
+moodAfter (timed t (outcome s granted)) before = cond (eqb s 2) 0 before
+moodAfter (timed t (outcome s silent)) before = cond (eqb s 2) 1 before
+moodAfter (timed t (outcome s (rejected cause second))) before = cond (eqb s 2) (moodOn cause) before
 moodAfter (timed t dropped) before = before
 moodAfter (timed t tick) before = before
 moodAfter (typed l) before = before
 
-unfoldable pub mood : List Entry → ℕ
-mood [] = 0
-mood (x ∷ past) = moodAfter (x .call) (mood past)
+unfoldable pub mood : State → List Entry → ℕ
+mood g [] = g .facts .services .mood
+mood g (x ∷ past) = moodAfter (x .call) (mood g past)
 
 -- ---- The card's counters
 
@@ -166,17 +166,15 @@ leaked opened rate old (suc n) counter =
 -- a request that was blocked by the limit of counter k
 abbrev pub blocksOn : Counter → Call → ℕ → Bool
 blocksOn k (timed t (ask q)) n = raises k n
-blocksOn k (timed t (granted s)) n = false
-blocksOn k (timed t (silent s)) n = false
-blocksOn k (timed t (rejected s cause second)) n = false
+blocksOn k (timed t (outcome s o)) n = false
 blocksOn k (timed t dropped) n = false
 blocksOn k (timed t tick) n = false
 blocksOn k (typed l) n = false
 
--- counter k: the card's at opening; a call leaks from the old time to its own, and then its own block adds one, to 255 at most
-unfoldable pub counter : Given → Counter → List Entry → ℕ
-counter g k [] = ofSix (g .counters) k
+-- counter k: the start's; a call leaks from the old time to its own, and then its own block adds one, to 255 at most
+unfoldable pub counter : State → Counter → List Entry → ℕ
+counter g k [] = ofSix (g .facts .counters) k
 counter g k (x ∷ past) =
     let old = lastTime g past in
-    let left = leaked (g .opening .opened) (rateOf (g .opening) k) old (timeOf (x .call) old - old) (counter g k past) in
+    let left = leaked (g .facts .opening .opened) (rateOf (g .facts .opening) k) old (timeOf (x .call) old - old) (counter g k past) in
     cond (blocksOn k (x .call) (x .answer .number)) (oneMore left) left

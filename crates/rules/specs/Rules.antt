@@ -5,35 +5,9 @@ use mathlib.Core.List.{List, [], _∷_, _++_}
 use lib.ListN.{length, getD, set, drop}
 use lib.Dec.{ltb, leb, eqb}
 use Rattle.rules.specs.declared.Answer.{Answer}
-use Rattle.rules.specs.Calls.{Opening, Given, Event, ask, granted, silent, rejected, dropped, tick, Line, nfm, nfm-start, intervals, query, bad, Call, timed, typed, answer}
-use Rattle.rules.specs.Tables.{highestTime, inHour, freeIn, Kind, attach, activation, pdp, sms, reset, goes, action, moodOn, oneMore, waitFor, scheduled, six, ofSix}
-
--- ---- What is known
-
--- settled by AT lines
-pub record Mode : Type 0 where
-  pub nfm : ℕ
-  pub start : ℕ
-  pub intervals : List ℕ
-
--- the four services: failures in a row, back-off ends, standing (0 idle, 1 asked, 2 up); the mood of service 2
-pub record Services : Type 0 where
-  pub failures : List ℕ
-  pub ends : List ℕ
-  pub standing : List ℕ
-  pub mood : ℕ
-
-pub record Facts : Type 0 where
-  pub opening : Opening
-  pub mode : Mode
-  pub last : ℕ
-  pub counters : List ℕ
-  pub services : Services
-
--- with the permit times of each list, oldest first, however many
-pub record State : Type 0 where
-  pub facts : Facts
-  pub lists : Kind → List ℕ
+use Rattle.rules.specs.Calls.{Outcome, Event, ask, outcome, granted, silent, rejected, dropped, tick, Line, nfm, nfm-start, intervals, query, bad, Call, timed, typed, answer}
+use Rattle.rules.specs.State.{Facts, Services, State, withLast, withMode, withCounters, withServices, withStanding, withBackoffs, idle}
+use Rattle.rules.specs.Tables.{highestTime, inHour, freeIn, Kind, attach, activation, pdp, sms, reset, goes, among, refusals, counting, action, moodOn, oneMore, waitFor, scheduled}
 
 -- ---- The limits
 
@@ -83,9 +57,9 @@ check ok n rest = cond ok rest n
 -- 2: request, service, cause and flag in range
 unfoldable pub inRange : Event → Bool
 inRange (ask q) = leb q 5
-inRange (granted s) = leb s 3
-inRange (silent s) = leb s 3
-inRange (rejected s cause second) = leb s 3 && (leb cause 255 && leb second 1)
+inRange (outcome s granted) = leb s 3
+inRange (outcome s silent) = leb s 3
+inRange (outcome s (rejected cause second)) = leb s 3 && (leb cause 255 && leb second 1)
 inRange dropped = true
 inRange tick = true
 
@@ -99,9 +73,7 @@ standing f s = getD (f .services .standing) s 0
 
 unfoldable pub stands : Facts → Event → Bool
 stands f (ask q) = cond (leb q 3) (eqb (standing f q) 0) (cond (eqb q 4) (eqb (standing f 2) 2) true)
-stands f (granted s) = eqb (standing f s) 1
-stands f (silent s) = eqb (standing f s) 1
-stands f (rejected s cause second) = eqb (standing f s) 1
+stands f (outcome s o) = eqb (standing f s) 1
 stands f dropped = eqb (standing f 2) 2
 stands f tick = true
 
@@ -133,9 +105,9 @@ verdict w (timed t (ask q)) =
     cond (runs (w .facts) t q)
     (answer 10 (getD (w .facts .services .ends) q 0 - t))
     (firstBlock w t (limits (w .facts) q))
-verdict w (timed t (granted s)) = answer 0 0
-verdict w (timed t (silent s)) = failed (w .facts) s 20
-verdict w (timed t (rejected s cause second)) = failed (w .facts) s (action s cause second)
+verdict w (timed t (outcome s granted)) = answer 0 0
+verdict w (timed t (outcome s silent)) = failed (w .facts) s 20
+verdict w (timed t (outcome s (rejected cause second))) = failed (w .facts) s (action s cause second)
 verdict w (timed t dropped) = answer 0 0
 verdict w (timed t tick) = answer 0 0
 verdict w (typed (nfm a)) = answer 0 4
@@ -147,9 +119,8 @@ verdict w (typed bad) = answer 5 0
 unfoldable pub ruling : State → Call → Answer
 ruling w c = cond (eqb (refusal (w .facts) c) 0) (verdict w c) (answer (refusal (w .facts) c) 0)
 
--- numbers 1 to 5
 abbrev pub refused : Answer → Bool
-refused a = leb 1 (a .number) && leb (a .number) 5
+refused a = among (a .number) refusals
 
 -- ---- What an answered call changes
 
@@ -165,30 +136,21 @@ drained f t rate i = getD (f .counters) i 0 - (points f rate t - points f rate (
 unfoldable pub moved : ℕ → Facts → Facts
 moved t f =
     let o = f .opening in
-    record {
-      opening = o;
-      mode = f .mode;
-      last = t;
-      counters =
-          drained f t (o .LR1) 0
-          ∷ drained f t (o .LR2) 1
-          ∷ drained f t (o .LR3) 2
-          ∷ drained f t (o .LR3) 3
-          ∷ drained f t (o .LR3) 4
-          ∷ drained f t (o .LR3) 5
-          ∷ [];
-      services = f .services;
-    }
+    withCounters (withLast f t)
+    (drained f t (o .LR1) 0
+    ∷ drained f t (o .LR2) 1
+    ∷ drained f t (o .LR3) 2
+    ∷ drained f t (o .LR3) 3
+    ∷ drained f t (o .LR3) 4
+    ∷ drained f t (o .LR3) 5
+    ∷ [])
 
 -- a block by N1 or F1-F4 raises its counter
 abbrev pub raised : ℕ → List ℕ → List ℕ
 raised i l = set l i (oneMore (getD l i 0))
 
 unfoldable pub counted : ℕ → List ℕ → List ℕ
-counted n l = cond (eqb n 11) (raised 0 l) (cond (leb 13 n && leb n 16) (raised (n - 11) l) l)
-
-abbrev pub idle : List ℕ
-idle = 0 ∷ 0 ∷ 0 ∷ 0 ∷ []
+counted n l = cond (among n counting) (raised (n - 11) l) l
 
 -- the standing after a permit of request q
 unfoldable pub asked : ℕ → List ℕ → List ℕ
@@ -212,53 +174,33 @@ onFailed t s a d v = record {
   mood = cond (eqb s 2) d (v .mood);
 }
 
-abbrev pub withStanding : Services → List ℕ → Services
-withStanding v l = record { failures = v .failures; ends = v .ends; standing = l; mood = v .mood }
-
-abbrev pub withServices : Facts → Services → Facts
-withServices f v = record { opening = f .opening; mode = f .mode; last = f .last; counters = f .counters; services = v }
+-- after an outcome of service s at t that was answered a
+unfoldable pub onOutcome : ℕ → ℕ → Outcome → Answer → Services → Services
+onOutcome t s granted a v = onGranted s v
+onOutcome t s silent a v = onFailed t s a 1 v
+onOutcome t s (rejected cause second) a v = onFailed t s a (moodOn cause) v
 
 -- what event e at t, answered a, does beyond the clock
 unfoldable pub acted : ℕ → Event → Answer → Facts → Facts
-acted t (ask q) a f = record {
-  opening = f .opening;
-  mode = f .mode;
-  last = f .last;
-  counters = counted (a .number) (f .counters);
-  services = withStanding (f .services) (cond (eqb (a .number) 0) (asked q (f .services .standing)) (f .services .standing));
-}
-acted t (granted s) a f = withServices f (onGranted s (f .services))
-acted t (silent s) a f = withServices f (onFailed t s a 1 (f .services))
-acted t (rejected s cause second) a f = withServices f (onFailed t s a (moodOn cause) (f .services))
+acted t (ask q) a f =
+    let v = f .services in
+    withServices (withCounters f (counted (a .number) (f .counters))) (withStanding v (cond (eqb (a .number) 0) (asked q (v .standing)) (v .standing)))
+acted t (outcome s o) a f = withServices f (onOutcome t s o a (f .services))
 acted t dropped a f = withServices f (withStanding (f .services) (set (f .services .standing) 2 0))
 acted t tick a f = f
 
 -- AT+NFM=a,s: with a = 0 failures and ends become 0
 unfoldable pub switched : ℕ → ℕ → Facts → Facts
-switched a s f = record {
-  opening = f .opening;
-  mode = record { nfm = a; start = s; intervals = f .mode .intervals };
-  last = f .last;
-  counters = f .counters;
-  services = record {
-    failures = cond (eqb a 0) idle (f .services .failures);
-    ends = cond (eqb a 0) idle (f .services .ends);
-    standing = f .services .standing;
-    mood = f .services .mood;
-  };
-}
+switched a s f =
+    let v = f .services in
+    withServices (withMode f (record { nfm = a; start = s; intervals = f .mode .intervals }))
+    (withBackoffs v (cond (eqb a 0) idle (v .failures)) (cond (eqb a 0) idle (v .ends)))
 
 -- what an AT line does
 unfoldable pub obeyed : Line → Facts → Facts
 obeyed (nfm a) f = switched a (f .mode .start) f
 obeyed (nfm-start a s) f = switched a s f
-obeyed (intervals l) f = record {
-  opening = f .opening;
-  mode = record { nfm = f .mode .nfm; start = f .mode .start; intervals = l };
-  last = f .last;
-  counters = f .counters;
-  services = f .services;
-}
+obeyed (intervals l) f = withMode f (record { nfm = f .mode .nfm; start = f .mode .start; intervals = l })
 obeyed query f = f
 obeyed bad f = f
 
@@ -266,18 +208,16 @@ unfoldable pub changed : Call → Answer → Facts → Facts
 changed (timed t e) a f = acted t e a (moved t f)
 changed (typed l) a f = obeyed l f
 
--- the request of an event is added to list k when it is permitted
-unfoldable pub onto : Event → Kind → Bool
-onto (ask q) k = goes q k
-onto (granted s) k = false
-onto (silent s) k = false
-onto (rejected s cause second) k = false
-onto dropped k = false
-onto tick k = false
+-- event e, answered n, enters list k: a request that is permitted, and nothing else
+unfoldable pub enters : Event → ℕ → Kind → Bool
+enters (ask q) n k = eqb n 0 && goes q k
+enters (outcome s o) n k = false
+enters dropped n k = false
+enters tick n k = false
 
 -- the times that an answered call adds to list k
 unfoldable pub adds : Kind → Call → Answer → List ℕ
-adds k (timed t e) a = cond (eqb (a .number) 0 && onto e k) (t ∷ []) []
+adds k (timed t e) a = cond (enters e (a .number) k) (t ∷ []) []
 adds k (typed l) a = []
 
 -- what is known after call c was answered a; a refused call changes nothing
@@ -287,20 +227,7 @@ learn w c a = record {
   lists = λ k. w .lists k ++ adds k c a;
 }
 
--- ---- From the opening on
-
--- a new buffer is idle and clear, its last time the opening time, failures and ends 0, lists empty; Start Timer is 0
-unfoldable pub fresh : Given → State
-fresh g = record {
-  facts = record {
-    opening = g .opening;
-    mode = record { nfm = g .nfm; start = 0; intervals = g .intervals };
-    last = g .opening .opened;
-    counters = six (ofSix (g .counters));
-    services = record { failures = idle; ends = idle; standing = idle; mood = 0 };
-  };
-  lists = λ k. [];
-}
+-- ---- From a start on
 
 -- what is known after the calls cs, each answered by the rules, and their answers
 abbrev pub known : State → List Call → State

@@ -39,11 +39,26 @@ goes q pdp = eqb q 2 || eqb q 4
 goes q sms = eqb q 3
 goes q reset = eqb q 5
 
--- ---- Causes
+-- ---- Numbers that answer, by table
 
+-- c is one of a table
 abbrev pub among : ℕ → List ℕ → Bool
 among c [] = false
 among c (x ∷ l) = eqb c x || among c l
+
+-- the refusals
+abbrev pub refusals : List ℕ
+refusals = 1 ∷ 2 ∷ 3 ∷ 4 ∷ 5 ∷ []
+
+-- the rules that block, in document 01's order
+abbrev pub rules : List ℕ
+rules = 10 ∷ 11 ∷ 13 ∷ 14 ∷ 15 ∷ 16 ∷ 17 ∷ 18 ∷ []
+
+-- the blocks by N1 and F1-F4: n raises counter n - 11 of the six
+abbrev pub counting : List ℕ
+counting = 11 ∷ 13 ∷ 14 ∷ 15 ∷ 16 ∷ []
+
+-- ---- Causes
 
 -- what to do on a cause of service s: 20 back off, 21 re-attach, 22 other network, 23 as 3GPP says
 unfoldable pub action : ℕ → ℕ → ℕ → ℕ

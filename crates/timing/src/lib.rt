@@ -1,11 +1,13 @@
 // What is timed or compared by itself, exported for the programs under bench/ and tests/. Firmware has no use for it.
 use rules::Answer;
+use rules::Event;
 ghost use mathlib.Core.Path.{_≡_};
 ghost use mathlib.Core.Bool.{true};
 ghost use Prim.Native.Nat.{_≤_, _<_};
 ghost use lib.ListN.{length, take};
 ghost use Rattle.mixing.specs.Mixing.{mixed};
-ghost use Rattle.rules.specs.Calls.{timed, ask, tick};
+ghost use Rattle.rules.specs.Calls.{timed};
+ghost use Rattle.rules.specs.declared.Event.the-variants.{Ask as ask, Tick as tick};
 ghost use Rattle.rules.specs.Tables.{ascending};
 ghost use Rattle.buffer.specs.Places.{SIZE};
 ghost use Rattle.buffer.specs.Good.{good};
@@ -44,7 +46,7 @@ pub extern "C" fn timing_full_for(p: &[u32], n: u32, t: u32, most: u32) -> u32
 pub extern "C" fn timing_tick(s: &mut [u32], t: u32) -> Answer
     ensures { λ r. ⌜ Says (now (s .entry)) (timed t tick) r (now (s .exit)) ⌝ }
 {
-    clock::tick(s, t)
+    events::happen(s, t, Event::Tick)
 }
 
 // The clock call on a good buffer.
@@ -62,7 +64,7 @@ pub extern "C" fn timing_tick_in(s: &mut [u32], t: u32) -> Answer
 pub extern "C" fn timing_request(s: &mut [u32], t: u32, q: u32) -> Answer
     ensures { λ r. ⌜ Says (now (s .entry)) (timed t (ask q)) r (now (s .exit)) ⌝ }
 {
-    request::request(s, t, q)
+    events::happen(s, t, Event::Ask(q))
 }
 
 // A request on a good buffer.

@@ -9,7 +9,7 @@ use lib.ListN.{length, getD, take, drop, drop-of-length-le}
 use lib.Seq.{sets, drop-cons, drop-drop, getD-drop}
 use Rattle.image.proofs.Imaging.{front}
 use Rattle.text.specs.Number.{got, none}
-use Rattle.reasons.specs.Why.{rules}
+use Rattle.rules.specs.Tables.{rules}
 use Rattle.why.specs.Report.{lineIf, linesFor, wholeOf}
 
 module _ (m i : ℕ) (times : List ℕ) (h : i < 8) where

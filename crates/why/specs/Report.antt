@@ -8,7 +8,8 @@ use Rattle.text.specs.Number.{Part, got, none}
 use Rattle.text.specs.Printed.{printNum, printTwo}
 use Rattle.image.specs.Image.{numbersOf}
 use Rattle.reasons.specs.declared.said.Why.{Why}
-use Rattle.reasons.specs.Why.{rules, refusedBy, whyOf}
+use Rattle.rules.specs.Tables.{rules}
+use Rattle.reasons.specs.Why.{refusedBy, whyOf}
 use Rattle.why.specs.declared.Loaded.{Loaded}
 use Rattle.why.specs.declared.Loaded.the-variants.{Bytes, Not}
 

@@ -11,7 +11,7 @@ ghost use Prim.Native.Nat.{_+_, _≤_};
 ghost use lib.ListN.{length, take};
 ghost use lib.Seq.{sets};
 ghost use Rattle.text.specs.Number.{num, partOf, valueOf};
-ghost use Rattle.reasons.specs.Why.{rules};
+ghost use Rattle.rules.specs.Tables.{rules};
 ghost use Rattle.why.specs.Report.{lineIf, linesFor, report, reportOn, highest, wholeOf, countOf};
 
 // How many bytes of a file there are, or that it could not be read.

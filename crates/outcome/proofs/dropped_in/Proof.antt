@@ -1,5 +1,5 @@
 -- `outcome::dropped_in` meets its contract. Assumes nothing.
-use Rattle.rules.specs.Calls.{dropped}
+use Rattle.rules.specs.declared.Event.the-variants.{Dropped as dropped}
 use Rattle.buffer.specs.Layout.{factsOf}
 use Rattle.clock.proofs.Saying.{says-number}
 use Rattle.outcome.proofs.Outcomes.{dropped-refusal, says-dropped}

@@ -1,5 +1,6 @@
 -- `outcome::granted_in` meets its contract. Assumes nothing.
-use Rattle.rules.specs.Calls.{granted}
+use Rattle.rules.specs.declared.Event.the-variants.{Outcome as outcome}
+use Rattle.rules.specs.declared.Outcome.the-variants.{Granted as granted}
 use Rattle.rules.specs.Rules.{refusal, inRange, stands}
 use Rattle.clock.proofs.Saying.{says-number}
 use Rattle.outcome.proofs.Outcomes.{low, passed-range, says-granted}
@@ -18,14 +19,14 @@ unfolding refusal inRange stands
 returns c =
     let x = c .before .before .before .before in
     let n = c .before .checks in
-    says-number (x .args .s .now) (x .pre .1) (x .args .t) (granted (x .args .service)) (n .result) (n .ensures) (c .if1 .taken)
+    says-number (x .args .s .now) (x .pre .1) (x .args .t) (outcome (x .args .service) granted) (n .result) (n .ensures) (c .if1 .taken)
 
 grant-requires : tie.Need-grant-requires
 unfolding refusal inRange stands
 grant-requires c κs =
     let x = c .before .before .before .before .before in
     let n = c .before .before .checks in
-    (x .pre .0, (x .pre .1, low (x .args .service) (passed-range (x .args .s .now) (x .args .t) (granted (x .args .service)) (n .result) (n .ensures) (c .before .if1 .left))))
+    (x .pre .0, (x .pre .1, low (x .args .service) (passed-range (x .args .s .now) (x .args .t) (outcome (x .args .service) granted) (n .result) (n .ensures) (c .before .if1 .left))))
 
 same-length-2 : tie.Need-same-length-2
 same-length-2 c = search needs

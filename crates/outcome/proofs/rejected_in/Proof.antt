@@ -1,6 +1,7 @@
 -- `outcome::rejected_in` meets its contract. Assumes nothing.
 use lib.Dec.{leb}
-use Rattle.rules.specs.Calls.{rejected}
+use Rattle.rules.specs.declared.Event.the-variants.{Outcome as outcome}
+use Rattle.rules.specs.declared.Outcome.the-variants.{Rejected as rejected}
 use Rattle.rules.specs.Rules.{refusal, inRange, stands}
 use Rattle.clock.proofs.Saying.{says-number}
 use Rattle.rules.proofs.Checks.{and-left}
@@ -20,7 +21,7 @@ unfolding refusal inRange stands
 returns c =
     let x = c .before .before .before .before in
     let n = c .before .checks in
-    says-number (x .args .s .now) (x .pre .1) (x .args .t) (rejected (x .args .service) (x .args .cause) (x .args .second)) (n .result) (n .ensures) (c .if1 .taken)
+    says-number (x .args .s .now) (x .pre .1) (x .args .t) (outcome (x .args .service) (rejected (x .args .cause) (x .args .second))) (n .result) (n .ensures) (c .if1 .taken)
 
 action-requires : tie.Need-action-requires
 action-requires c κs = search needs
@@ -34,8 +35,8 @@ fail-requires c κs =
     let x = c .before .before .before .before .before .before .before in
     let n = c .before .before .before .before .checks in
     let z = c .before .before .before .if1 .left in
-    let range = passed-range (x .args .s .now) (x .args .t) (rejected (x .args .service) (x .args .cause) (x .args .second)) (n .result) (n .ensures) z in
-    let late = passed-time (x .args .s .now) (x .args .t) (rejected (x .args .service) (x .args .cause) (x .args .second)) (n .result) (n .ensures) z in
+    let range = passed-range (x .args .s .now) (x .args .t) (outcome (x .args .service) (rejected (x .args .cause) (x .args .second))) (n .result) (n .ensures) z in
+    let late = passed-time (x .args .s .now) (x .args .t) (outcome (x .args .service) (rejected (x .args .cause) (x .args .second))) (n .result) (n .ensures) z in
     (x .pre .0, (x .pre .1, (low (x .args .service) (and-left (leb (x .args .service) 3) _ range), late)))
 
 same-length-2 : tie.Need-same-length-2

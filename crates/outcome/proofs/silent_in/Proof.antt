@@ -1,5 +1,6 @@
 -- `outcome::silent_in` meets its contract. Assumes nothing.
-use Rattle.rules.specs.Calls.{silent}
+use Rattle.rules.specs.declared.Event.the-variants.{Outcome as outcome}
+use Rattle.rules.specs.declared.Outcome.the-variants.{Silent as silent}
 use Rattle.rules.specs.Rules.{refusal, inRange, stands}
 use Rattle.clock.proofs.Saying.{says-number}
 use Rattle.outcome.proofs.Outcomes.{low, passed-range, passed-time, says-silent}
@@ -18,7 +19,7 @@ unfolding refusal inRange stands
 returns c =
     let x = c .before .before .before .before in
     let n = c .before .checks in
-    says-number (x .args .s .now) (x .pre .1) (x .args .t) (silent (x .args .service)) (n .result) (n .ensures) (c .if1 .taken)
+    says-number (x .args .s .now) (x .pre .1) (x .args .t) (outcome (x .args .service) silent) (n .result) (n .ensures) (c .if1 .taken)
 
 fail-requires : tie.Need-fail-requires
 unfolding refusal inRange stands
@@ -26,8 +27,8 @@ fail-requires c κs =
     let x = c .before .before .before .before .before in
     let n = c .before .before .checks in
     let z = c .before .if1 .left in
-    let range = passed-range (x .args .s .now) (x .args .t) (silent (x .args .service)) (n .result) (n .ensures) z in
-    let late = passed-time (x .args .s .now) (x .args .t) (silent (x .args .service)) (n .result) (n .ensures) z in
+    let range = passed-range (x .args .s .now) (x .args .t) (outcome (x .args .service) silent) (n .result) (n .ensures) z in
+    let late = passed-time (x .args .s .now) (x .args .t) (outcome (x .args .service) silent) (n .result) (n .ensures) z in
     (x .pre .0, (x .pre .1, (low (x .args .service) range, late)))
 
 same-length-2 : tie.Need-same-length-2

@@ -3,7 +3,7 @@ use mathlib.Core.Path.{sym}
 use native.Mathlib.Omega.{arith}
 use lib.ListN.{List·getD-eq-default}
 use lib.Count.{trailing-le}
-use Rattle.reasons.specs.Why.{rules}
+use Rattle.rules.specs.Tables.{rules}
 use borrow.Author.Needs.{needs}
 use Rattle.reasons.proofs.first.Statement.{statement}
 use Rattle.reasons.proofs.first.Tie as tie

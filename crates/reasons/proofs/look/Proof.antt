@@ -2,7 +2,8 @@
 use mathlib.Core.Path.{_≡_, sym}
 use mathlib.Core.List.{List}
 use Prim.Native.Nat.{ℕ, _≤_}
-use Rattle.rules.specs.Calls.{timed, ask}
+use Rattle.rules.specs.Calls.{timed}
+use Rattle.rules.specs.declared.Event.the-variants.{Ask as ask}
 use Rattle.rules.specs.Rules.{refusal}
 use Rattle.rules.proofs.Checks.{on-time}
 use Rattle.buffer.specs.Layout.{factsOf}

@@ -1,6 +1,6 @@
 -- `request::decide` meets its contract. Assumes nothing.
 use mathlib.Core.Path.{sym, _∙_}
-use Rattle.rules.specs.Calls.{ask}
+use Rattle.rules.specs.declared.Event.the-variants.{Ask as ask}
 use Rattle.rules.proofs.Checks.{on-time}
 use Rattle.buffer.specs.Layout.{factsOf, view}
 use Rattle.request.proofs.Deciding.{ask-refused, ask-waits, ask-goes}

@@ -4,7 +4,7 @@ use mathlib.Core.List.{_++_, append-nil}
 use Prim.Native.Nat.{ℕ, _+_, _*_, _-_, _/_, _≤_}
 use native.Mathlib.Omega.{arith}
 use lib.ListN.{length, take, drop}
-use Rattle.reasons.specs.Why.{rules}
+use Rattle.rules.specs.Tables.{rules}
 use Rattle.why.specs.Report.{linesFor}
 use Rattle.why.proofs.Telling.{line-next}
 use borrow.Author.Needs.{needs}

@@ -5,7 +5,7 @@ use Prim.Native.Nat.{ℕ}
 use native.Mathlib.Omega.{arith}
 use borrow.Author.Tests.{ne-eqb}
 use Rattle.text.specs.Printed.{printTwo}
-use Rattle.reasons.specs.Why.{rules}
+use Rattle.rules.specs.Tables.{rules}
 use Rattle.why.specs.Report.{linesFor, report}
 use Rattle.why.proofs.Telling.{written}
 use borrow.Author.Needs.{needs}
