@@ -6,18 +6,18 @@ use Prim.Native.Nat.{ℕ, zero, suc, _+_, _-_, _*_, _^_, _≤_, _<_, zero-le}
 use native.Mathlib.Nat.{le-of-eq, mod-lt}
 use native.Mathlib.Omega.{arith}
 use borrow.Author.Tests.{leb-true, ltb-true, eqb-true, le-leb, eq-eqb, lt-ltb}
-use lib.Dec.{lit<, lit≤, leb, ltb}
+use lib.Dec.{lit<, lit≤, leb, ltb, eqb}
 use lib.Arith.{digits-div, digits-mod}
 use lib.ListN.{length, getD, take, drop, replicate, length-take, length-drop, take-append-drop, List·getD-map}
 use lib.Seq.{take-take, take-all, drop-append-seam}
 use Rattle.rules.specs.State.{State, Facts}
-use Rattle.buffer.specs.Places.{SIZE, REMAINDER, COUNT, INTERVALS, LENGTHS, LISTS}
+use Rattle.buffer.specs.Places.{SIZE, CURRENT, VERSION, REMAINDER, COUNT, INTERVALS, LENGTHS, LISTS}
 use Rattle.buffer.specs.Segments.{concat, part, pad}
 use Rattle.buffer.specs.Layout.{widths, segments, spread, lay, rows, row, factsOf, view}
 use Rattle.buffer.specs.Good.{every, atMost, zeros, bytes, unused, Shape, count-good, imsi-good, intervals-good, list-good, row-good, lines, good, fits, values, valid}
 use Rattle.rules.proofs.Checks.{and-left, and-right}
 use Rattle.buffer.proofs.Tests.{pick, passed}
-use Rattle.buffer.proofs.Segments.{pieces, concat-pieces, spelled, spell, length-part, part-at}
+use Rattle.buffer.proofs.Segments.{pieces, concat-pieces, concat-part, spelled, spell, length-part, part-at}
 use Rattle.buffer.proofs.Laying.{Shaped, length-pad, length-lay, get, cut, places-at, count-at, view-lay}
 
 -- ---- Unused places
@@ -59,7 +59,7 @@ unused-pad w l = rw (drop-append-seam l (replicate (w - length l) 0)) (zeros-of 
 
 module _ (b : List ℕ) (h : Shape b) where
   -- n numbers in use, in a part of w places
-  module _ (at w n : ℕ) (fits : at + w ≤ 1330) (few : n ≤ w) where
+  module _ (at w n : ℕ) (fits : at + w ≤ SIZE) (few : n ≤ w) where
     used : length (part b at n) ≡ n
     used = length-part b at n (omega (arith, h .long))
 
@@ -100,7 +100,7 @@ module _ (b : List ℕ) (h : Shape b) where
   }
 
   -- n numbers as they stand in the buffer
-  spelt : (at n : ℕ) → at + n ≤ 1330 → spelled b at n ≡ part b at n
+  spelt : (at n : ℕ) → at + n ≤ SIZE → spelled b at n ≡ part b at n
   spelt at n fits = sym (spell b at n (omega (arith, h .long)))
 
   counts-part : map length (rows (view b .lists)) ≡ part b LENGTHS 5
@@ -110,8 +110,7 @@ module _ (b : List ℕ) (h : Shape b) where
   rows-part : concat (map (pad 255) (rows (view b .lists))) ≡ part b LISTS 1275
   rows-part =
       ap concat (λ i. row-pad 0 (lit< tt) i ∷ row-pad 1 (lit< tt) i ∷ row-pad 2 (lit< tt) i ∷ row-pad 3 (lit< tt) i ∷ row-pad 4 (lit< tt) i ∷ [])
-      ∙ concat-pieces (255 ∷ 255 ∷ 255 ∷ 255 ∷ 255 ∷ []) 55 b (sym (h .long))
-      ∙ sym (take-all 1275 (drop 55 b) (simp length-drop (omega (arith, h .long))))
+      ∙ concat-part (255 ∷ 255 ∷ 255 ∷ 255 ∷ 255 ∷ []) 55 b
 
   same : segments (factsOf b) (rows (view b .lists)) ≡ pieces widths 0 b
   unfolding segments factsOf
@@ -168,17 +167,22 @@ rowTests : List ℕ → List Bool
 rowTests b = row-good b 0 ∷ row-good b 1 ∷ row-good b 2 ∷ row-good b 3 ∷ row-good b 4 ∷ []
 
 module _ (b : List ℕ) (h : good b ≡ true) where
+  -- length and version, and the other lines
+  head : (eqb (length b) SIZE && eqb (getD b VERSION 0) CURRENT) ≡ true
+  unfolding good
+  head = and-left (eqb (length b) SIZE && eqb (getD b VERSION 0) CURRENT) (every (lines b)) h
+
   line : (i : ℕ) → getD (lines b) i true ≡ true
   unfolding good
-  line i = pick (lines b) i h
+  line i = pick (lines b) i (and-right (eqb (length b) SIZE && eqb (getD b VERSION 0) CURRENT) (every (lines b)) h)
 
   row-test : (k : ℕ) → k < 5 → row-good b k ≡ true
   unfolding lines rowTests
-  row-test zero l = pick (rowTests b) 0 (line 17)
-  row-test (suc zero) l = pick (rowTests b) 1 (line 17)
-  row-test (suc (suc zero)) l = pick (rowTests b) 2 (line 17)
-  row-test (suc (suc (suc zero))) l = pick (rowTests b) 3 (line 17)
-  row-test (suc (suc (suc (suc zero)))) l = pick (rowTests b) 4 (line 17)
+  row-test zero l = pick (rowTests b) 0 (line 15)
+  row-test (suc zero) l = pick (rowTests b) 1 (line 15)
+  row-test (suc (suc zero)) l = pick (rowTests b) 2 (line 15)
+  row-test (suc (suc (suc zero))) l = pick (rowTests b) 3 (line 15)
+  row-test (suc (suc (suc (suc zero)))) l = pick (rowTests b) 4 (line 15)
   row-test (suc (suc (suc (suc (suc k))))) l = absurd (omega arith)
 
   rising : (k : ℕ) → k < 5 → list-good (factsOf b .opening .opened) (factsOf b .last) (row b k) ≡ true
@@ -194,19 +198,19 @@ module _ (b : List ℕ) (h : good b ≡ true) where
   good-shape =
       let n = getD b COUNT 0 in
       record {
-        long = eqb-true (length b) SIZE (line 0);
-        lettered = eqb-true _ _ (line 1);
-        version = eqb-true _ _ (line 2);
-        low = ltb-true (getD b REMAINDER 0) (2 ^ 32) (and-left _ _ (line 4));
-        few = leb-true n 10 (and-right (leb 1 n) (leb n 10) (line 6));
-        spare = and-right (intervals-good (factsOf b .mode .intervals)) _ (line 7);
-        short = byte-low b LENGTHS 5 (line 16);
+        long = eqb-true (length b) SIZE (and-left (eqb (length b) SIZE) _ head);
+        lettered = eqb-true _ _ (line 0);
+        version = eqb-true _ _ (and-right (eqb (length b) SIZE) _ head);
+        low = ltb-true (getD b REMAINDER 0) (2 ^ 32) (and-left _ _ (line 2));
+        few = leb-true n 10 (and-right (leb 1 n) (leb n 10) (line 4));
+        spare = and-right (intervals-good (factsOf b .mode .intervals)) _ (line 5);
+        short = byte-low b LENGTHS 5 (line 14);
         clear = clear;
       }
 
   counted : count-good (length (factsOf b .mode .intervals)) ≡ true
   unfolding lines factsOf
-  counted = rw (interval-count b good-shape) (line 6)
+  counted = rw (interval-count b good-shape) (line 4)
 
   pub good-values : every (values (view b)) ≡ true
   unfolding lines values
@@ -215,10 +219,10 @@ module _ (b : List ℕ) (h : good b ≡ true) where
       let lists =
       passed (map (list-good (v .facts .opening .opened) (v .facts .last)) (rows (v .lists)))
       (rising 0 (lit< tt), (rising 1 (lit< tt), (rising 2 (lit< tt), (rising 3 (lit< tt), (rising 4 (lit< tt), tt))))) in
-      let imsi = and-right (ltb (getD b REMAINDER 0) (2 ^ 32)) (imsi-good (v .facts .opening .imsi)) (line 4) in
-      let intervals = and-left (intervals-good (v .facts .mode .intervals)) (zeros (unused (getD b COUNT 0) (part b INTERVALS 10))) (line 7) in
+      let imsi = and-right (ltb (getD b REMAINDER 0) (2 ^ 32)) (imsi-good (v .facts .opening .imsi)) (line 2) in
+      let intervals = and-left (intervals-good (v .facts .mode .intervals)) (zeros (unused (getD b COUNT 0) (part b INTERVALS 10))) (line 5) in
       passed (values v)
-      (line 3, (imsi, (line 5, (counted, (intervals, (line 8, (line 9, (line 10, (line 11, (line 12, (line 13, (line 14, (line 15, (lists, tt))))))))))))))
+      (line 1, (imsi, (line 3, (counted, (intervals, (line 6, (line 7, (line 8, (line 9, (line 10, (line 11, (line 12, (line 13, (lists, tt))))))))))))))
 
 pub both-true : {x y : Bool} → x ≡ true → y ≡ true → (x && y) ≡ true
 both-true p q = rw (p, q)
@@ -259,8 +263,9 @@ module _ (b : List ℕ) (s : Shape b) (h : every (values (view b)) ≡ true) whe
       (row-tested 0 (lit< tt) (row 0), (row-tested 1 (lit< tt) (row 1), (row-tested 2 (lit< tt) (row 2), (row-tested 3 (lit< tt) (row 3), (row-tested 4 (lit< tt) (row 4), tt))))) in
       let imsi : (ltb (getD b REMAINDER 0) (2 ^ 32) && imsi-good (f .opening .imsi)) ≡ true = both-true (lt-ltb _ _ (s .low)) (value 1) in
       let intervals : (intervals-good (f .mode .intervals) && zeros (unused (getD b COUNT 0) (part b INTERVALS 10))) ≡ true = both-true (value 4) (s .spare) in
-      passed (lines b)
-      (eq-eqb _ _ (s .long), (eq-eqb _ _ (s .lettered), (eq-eqb _ _ (s .version), (value 0, (imsi, (value 2, (counted-by, (intervals, (value 5, (value 6, (value 7, (value 8, (value 9, (value 10, (value 11, (value 12, (counts-low, (lists, tt))))))))))))))))))
+      both-true (both-true (eq-eqb _ _ (s .long)) (eq-eqb _ _ (s .version)))
+      (passed (lines b)
+      (eq-eqb _ _ (s .lettered), (value 0, (imsi, (value 2, (counted-by, (intervals, (value 5, (value 6, (value 7, (value 8, (value 9, (value 10, (value 11, (value 12, (counts-low, (lists, tt)))))))))))))))))
 
 -- ---- A valid state has lists as long as their places
 

@@ -10,7 +10,7 @@ use lib.Seq.{take-append-seam, take-all}
 use Rattle.rules.specs.Tables.{Kind, attach, activation, pdp, sms, reset}
 use Rattle.rules.specs.State.{State, Facts}
 use Rattle.buffer.specs.Segments.{concat, off, part, pad, paste}
-use Rattle.buffer.specs.Places.{LENGTHS, LISTS}
+use Rattle.buffer.specs.Places.{SIZE, LENGTHS, LISTS}
 use Rattle.buffer.specs.Layout.{widths, segments, spread, lay, rows, place, row, factsOf, view}
 use Rattle.buffer.proofs.Segments.{getD-seg, set-seg, part-seg, paste-seg, length-seg, width-set, map-set}
 
@@ -89,7 +89,7 @@ module _ (f : Facts) (rs : List (List ℕ)) (s : Shaped f rs) where
       ∷ rows-length i
       ∷ []
 
-  pub length-lay : length (spread f rs) ≡ 1330
+  pub length-lay : length (spread f rs) ≡ SIZE
   unfolding spread
   length-lay = length-seg (segments f rs) widths sizes
 

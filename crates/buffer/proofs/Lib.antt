@@ -4,8 +4,6 @@ pub mod Laying
 pub mod Goodness
 pub mod Sane
 pub mod Keep
-pub mod Scans
-pub mod Judged
 pub mod Listing
 pub mod Laid
 pub mod Starting

@@ -5,7 +5,7 @@ use Prim.Native.Nat.{ℕ, zero, suc, _+_, _≤_, _<_}
 use native.Mathlib.Nat.{zero-add, suc-add, add-assoc, not-suc-le-zero}
 use native.Mathlib.Omega.{arith}
 use lib.ListN.{length, getD, take, drop, set, length-append, length-take, length-drop, List·getD-append, List·getD-map, length-map, take-append-drop, drop-of-length-le}
-use lib.Seq.{take-append-le, drop-append-le, take-append-add, drop-append-add, getD-append-add, set-append-left, set-getD, drop-nil, drop-drop, drop-cons, getD-take, getD-drop}
+use lib.Seq.{take-add, take-append-le, drop-append-le, take-append-add, drop-append-add, getD-append-add, set-append-left, set-getD, drop-nil, drop-drop, drop-cons, getD-take, getD-drop}
 use Rattle.buffer.specs.Segments.{concat, off, part, paste}
 
 pub set-append-add : (xs ys : List ℕ) (i a : ℕ) → set (xs ++ ys) (length xs + i) a ≡ xs ++ set ys i a
@@ -98,6 +98,14 @@ concat-pieces [] at b h = sym (drop-of-length-le b {i = at} (omega arith))
 concat-pieces (w ∷ ws) at b h =
     ap {B = List ℕ} (λ r. part b at w ++ r) (concat-pieces ws (at + w) b (omega arith) ∙ sym (drop-drop w at b))
     ∙ take-append-drop w (drop at b)
+
+pub concat-part : (ws : List ℕ) (at : ℕ) (b : List ℕ) → concat (pieces ws at b) ≡ part b at (off ws (length ws))
+unfolding concat
+concat-part [] at b = refl
+concat-part (w ∷ ws) at b =
+    let n = off ws (length ws) in
+    ap {B = List ℕ} (λ r. part b at w ++ r) (concat-part ws (at + w) b ∙ ap {B = List ℕ} (λ r. take n r) (sym (drop-drop w at b)))
+    ∙ sym (take-add w n (drop at b))
 
 -- a part, number by number
 abbrev pub spelled : List ℕ → ℕ → ℕ → List ℕ

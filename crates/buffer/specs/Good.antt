@@ -8,7 +8,7 @@ use lib.ListN.{length, getD, take, drop}
 use Rattle.rules.specs.Calls.{Opening}
 use Rattle.rules.specs.Tables.{highestTime, ascending}
 use Rattle.rules.specs.State.{State, Services}
-use Rattle.buffer.specs.Places.{SIZE, LETTERS, VERSION, REMAINDER, COUNT, INTERVALS, LENGTHS, LISTS}
+use Rattle.buffer.specs.Places.{SIZE, CURRENT, LETTERS, VERSION, REMAINDER, COUNT, INTERVALS, LENGTHS, LISTS}
 use Rattle.buffer.specs.Segments.{part}
 use Rattle.buffer.specs.Layout.{letters, rows, row, factsOf}
 
@@ -96,6 +96,7 @@ unfoldable pub row-good : List ℕ → ℕ → Bool
 row-good b k =
     list-good (factsOf b .opening .opened) (factsOf b .last) (row b k) && zeros (unused (getD b (LENGTHS + k) 0) (part b (LISTS + 255 * k) 255))
 
+-- the lines of the places of the first version, which stand in front in every version
 unfoldable pub lines : List ℕ → List Bool
 lines b =
     let f = factsOf b in
@@ -103,9 +104,7 @@ lines b =
     let m = f .mode in
     let v = f .services in
     let n = getD b COUNT 0 in
-    eqb (length b) SIZE  -- 1,330 numbers
-    ∷ eqb (getD b LETTERS 0) letters  -- 0
-    ∷ eqb (getD b VERSION 0) 1  -- 1
+    eqb (getD b LETTERS 0) letters  -- 0
     ∷ times-good (o .opened) (f .last)  -- 2, 3
     ∷ (ltb (getD b REMAINDER 0) (2 ^ 32) && imsi-good (o .imsi))  -- 4, 5
     ∷ flags-good (m .nfm) (m .start) (o .rpm)  -- 6, 7, 8
@@ -123,8 +122,13 @@ lines b =
     ∷ every (row-good b 0 ∷ row-good b 1 ∷ row-good b 2 ∷ row-good b 3 ∷ row-good b 4 ∷ [])  -- 55-1329
     ∷ []
 
+-- a good buffer of a version: its length, its version, and every line
+abbrev pub goodAs : (size version : ℕ) → List ℕ → Bool
+goodAs n v b = eqb (length b) n && eqb (getD b VERSION 0) v && every (lines b)
+
+-- and of this one: 1,330 numbers
 unfoldable pub good : List ℕ → Bool
-good b = every (lines b)
+good b = goodAs SIZE CURRENT b
 
 -- n of the lines, from line i on
 abbrev pub some-lines : List ℕ → ℕ → ℕ → Bool
@@ -135,7 +139,7 @@ some-lines b i n = every (take n (drop i (lines b)))
 pub record Shape (b : List ℕ) : Type 0 where
   pub long : length b ≡ SIZE
   pub lettered : getD b LETTERS 0 ≡ letters
-  pub version : getD b VERSION 0 ≡ 1
+  pub version : getD b VERSION 0 ≡ CURRENT
   pub low : getD b REMAINDER 0 < 2 ^ 32
   pub few : getD b COUNT 0 ≤ 10
   pub spare : zeros (unused (getD b COUNT 0) (part b INTERVALS 10)) ≡ true

@@ -5,7 +5,7 @@ use lib.ListN.{length, getD}
 use Rattle.rules.specs.Tables.{Kind, attach, activation, pdp, sms, reset}
 use Rattle.rules.specs.State.{State, Facts}
 use Rattle.buffer.specs.Segments.{concat, part, pad}
-use Rattle.buffer.specs.Places.{OPENED, LAST, QUOTIENT, REMAINDER, NFM, START, RPM, COUNT, INTERVALS, PARAMETERS, HOUSE, RATES, FAILURES, ENDS, STANDING, MOOD, COUNTERS, LENGTHS, LISTS}
+use Rattle.buffer.specs.Places.{CURRENT, OPENED, LAST, QUOTIENT, REMAINDER, NFM, START, RPM, COUNT, INTERVALS, PARAMETERS, HOUSE, RATES, FAILURES, ENDS, STANDING, MOOD, COUNTERS, LENGTHS, LISTS}
 
 -- letters WRP
 abbrev pub letters : ℕ
@@ -30,7 +30,7 @@ segments f rs =
     let m = f .mode in
     let v = f .services in
     (letters ∷ [])  -- 0
-    ∷ (1 ∷ [])  -- 1
+    ∷ (CURRENT ∷ [])  -- 1
     ∷ (o .opened ∷ f .last ∷ [])  -- 2, 3
     ∷ (o .imsi / 2 ^ 32 ∷ o .imsi % 2 ^ 32 ∷ [])  -- 4, 5
     ∷ (m .nfm ∷ m .start ∷ o .rpm ∷ [])  -- 6, 7, 8

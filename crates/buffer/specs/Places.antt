@@ -7,6 +7,17 @@ use Prim.Native.Nat.{ℕ}
 abbrev pub SIZE : ℕ
 SIZE = 1330
 
+-- four bytes for each
+abbrev pub BYTES : ℕ
+BYTES = 5320
+
+-- the version of this table; the places of the first version stand in front in every version
+abbrev pub CURRENT : ℕ
+CURRENT = 1
+
+abbrev pub BASE : ℕ
+BASE = 1330
+
 -- 0: letters WRP
 abbrev pub LETTERS : ℕ
 LETTERS = 0

@@ -2,10 +2,11 @@
 // 1,330 places, which every call has seen to before, and for a place inside its group.
 use crate::places as at;
 ghost use mathlib.Core.Path.{_≡_};
-ghost use Prim.Native.Nat.{_+_, _*_, _<_, _^_};
+ghost use Prim.Native.Nat.{_+_, _*_, _≤_, _<_, _^_};
 ghost use lib.ListN.{length, getD, set};
 ghost use Rattle.buffer.specs.Places.{
   SIZE,
+  BASE,
   COUNT,
   COUNTERS,
   ENDS,
@@ -89,7 +90,7 @@ fn wide(x: u32) -> u64
 
 // The IMSI as a number.
 pub fn imsi(s: &[u32]) -> u64
-    requires { ⌜ length (now s) ≡ SIZE ⌝ }
+    requires { ⌜ BASE ≤ length (now s) ⌝ }
     ensures { λ r. ⌜ r ≡ getD (now (s .entry)) QUOTIENT 0 * 2 ^ 32 + getD (now (s .entry)) REMAINDER 0 ⌝ }
 {
     wide(s[at::QUOTIENT]) * 4294967296 + wide(s[at::REMAINDER])

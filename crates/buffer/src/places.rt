@@ -2,6 +2,13 @@
 
 // 1,330 numbers
 pub const SIZE: usize = 1330;
+// four bytes for each
+pub const BYTES: usize = 5320;
+
+// The version of this table.
+pub const CURRENT: u32 = 1;
+// The places of the first version stand in front in every version.
+pub const BASE: usize = 1330;
 // 0: letters WRP
 pub const LETTERS: usize = 0;
 // 1: version

@@ -21,7 +21,7 @@ use Rattle.buffer.proofs.Laying.{length-pad}
 use Rattle.buffer.proofs.Goodness.{valid-view}
 use Rattle.buffer.proofs.Sane.{valid-facts}
 use Rattle.opening.proofs.Copying.{stored as stores}
-use Rattle.outcome.specs.Outcome.{stored, clear}
+use Rattle.backoff.specs.Backoffs.{stored, clear}
 use Rattle.clock.specs.Call.{callAnswer, Says}
 use Rattle.clock.proofs.Saying.{moves, says-good, says-refused}
 use Rattle.text.proofs.Choice.{absurd-bool}

@@ -12,7 +12,7 @@ use Rattle.buffer.specs.Places.{NFM, START, COUNT, INTERVALS}
 use Rattle.buffer.specs.Segments.{pad, paste}
 use Rattle.buffer.specs.Layout.{factsOf}
 use Rattle.buffer.specs.Good.{good}
-use Rattle.outcome.specs.Outcome.{stored, clear}
+use Rattle.backoff.specs.Backoffs.{stored, clear}
 use Rattle.clock.specs.Call.{callAnswer, callAfter}
 use Rattle.at.specs.Lines.{readLine}
 

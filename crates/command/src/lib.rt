@@ -11,7 +11,7 @@ ghost use Rattle.buffer.specs.Places.{SIZE};
 ghost use Rattle.buffer.specs.Segments.{paste};
 ghost use Rattle.buffer.specs.Layout.{factsOf};
 ghost use Rattle.buffer.specs.Good.{good};
-ghost use Rattle.outcome.specs.Outcome.{stored, clear};
+ghost use Rattle.backoff.specs.Backoffs.{stored, clear};
 ghost use Rattle.clock.specs.Call.{Says};
 ghost use Rattle.at.specs.Lines.{readLine};
 ghost use Rattle.command.specs.Command.{calmed, turned, timedBy, okay as okayBytes, shown, reply, CommandSays};
@@ -22,8 +22,8 @@ fn calm(s: &mut [u32], i: usize)
     requires { ⌜ i < 4 ⌝ }
     ensures { λ _. ⌜ now (s .exit) ≡ stored (now (s .entry)) i clear ⌝ }
 {
-    let b = outcome::load(s, i);
-    outcome::store(s, i, b.cleared());
+    let b = backoff::load(s, i);
+    backoff::store(s, i, b.cleared());
 }
 
 // None of the four has.
@@ -161,7 +161,7 @@ pub fn command(s: &mut [u32], line: &[u8], out: &mut [u8]) -> Answer
             second: 0,
         };
     }
-    if !buffer::is_good(s) {
+    if !inspect::is_good(s) {
         return Answer {
             number: 1,
             second: 0,

@@ -57,7 +57,7 @@ fn judged(s: &[u32], n: usize) -> u8 {
     if n > s.len() {
         return b'?';
     }
-    if buffer::is_good(&s[0..n]) {
+    if inspect::is_good(&s[0..n]) {
         return b'1';
     }
     b'0'

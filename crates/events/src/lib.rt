@@ -28,7 +28,7 @@ pub fn happen_in(s: &mut [u32], t: u32, e: Event) -> Answer
 pub fn happen(s: &mut [u32], t: u32, e: Event) -> Answer
     ensures { λ r. ⌜ Says (now (s .entry)) (timed t e) r (now (s .exit)) ⌝ }
 {
-    if !buffer::is_good(s) {
+    if !inspect::is_good(s) {
         return Answer {
             number: 1,
             second: 0,

@@ -385,6 +385,6 @@ pub fn answer(s: &mut [u32], line: &[u8], out: &mut [u8]) -> usize
     if out.len() < 22 {
         return 0;
     }
-    let ok = buffer::is_good(s);
+    let ok = inspect::is_good(s);
     respond(s, line, out, ok)
 }

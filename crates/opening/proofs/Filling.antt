@@ -7,7 +7,7 @@ use lib.Dec.{lit<, lit≤}
 use lib.ListN.{length, getD, set, replicate, length-replicate, replicate-append-replicate}
 use lib.Seq.{take-all}
 use Rattle.rules.specs.State.{fresh}
-use Rattle.buffer.specs.Places.{SIZE, LETTERS, INTERVALS, PARAMETERS, HOUSE, RATES, COUNTERS}
+use Rattle.buffer.specs.Places.{SIZE, CURRENT, LETTERS, INTERVALS, PARAMETERS, HOUSE, RATES, COUNTERS}
 use Rattle.buffer.specs.Segments.{concat, off, pad, paste}
 use Rattle.buffer.specs.Layout.{letters, segments, spread, lay}
 use Rattle.buffer.proofs.Segments.{spelled, spell, paste-seg, width-set}
@@ -59,7 +59,7 @@ spell-all l n h = sym (take-all n l (omega (arith, h))) ∙ spell l 0 n (omega (
 
 module _ (o : Order) (few : length (o .intervals) ≤ 10) where
   abbrev head : List ℕ
-  head = letters ∷ 1 ∷ o .time ∷ o .time ∷ o .imsi / 2 ^ 32 ∷ o .imsi % 2 ^ 32 ∷ o .nfm ∷ 0 ∷ o .rpm ∷ length (o .intervals) ∷ []
+  head = letters ∷ CURRENT ∷ o .time ∷ o .time ∷ o .imsi / 2 ^ 32 ∷ o .imsi % 2 ^ 32 ∷ o .nfm ∷ 0 ∷ o .rpm ∷ length (o .intervals) ∷ []
 
   pub filled : (p r k : List ℕ) → length p ≡ 6 → length r ≡ 3 → length k ≡ 6 → {b0 b1 b2 b3 b4 : List ℕ}
       → b0 ≡ replicate SIZE 0

@@ -1,13 +1,13 @@
 // Opening: a new buffer of what is given, or a refusal and the buffer as it was. It needs no earlier time and no good buffer.
 use buffer::places as at;
-use buffer::scan::rising;
+use inspect::scan::rising;
 use rules::Answer;
 ghost use mathlib.Core.Path.{_≡_};
 ghost use mathlib.Core.List.{[], _∷_};
 ghost use Prim.Native.Nat.{_+_, _/_, _%_, _^_, _≤_};
 ghost use lib.ListN.{length, getD, replicate};
 ghost use Rattle.rules.specs.Tables.{scheduled};
-ghost use Rattle.buffer.specs.Places.{SIZE, LETTERS, INTERVALS, PARAMETERS, HOUSE, RATES};
+ghost use Rattle.buffer.specs.Places.{SIZE, CURRENT, LETTERS, INTERVALS, PARAMETERS, HOUSE, RATES};
 ghost use Rattle.buffer.specs.Segments.{pad, paste};
 ghost use Rattle.buffer.specs.Layout.{letters, lay};
 ghost use Rattle.opening.specs.Open.{order, settings, begun, OpenSays};
@@ -47,10 +47,10 @@ fn in_order(imsi: u64, l: &[u32], nfm: u32, rpm: u32, a1: u32, s1: u32) -> bool
 fn head(s: &mut [u32], time: u32, imsi: u64, nfm: u32, rpm: u32, n: u32)
     requires { ⌜ length (now s) ≡ SIZE ⌝ }
     requires { ⌜ imsi ≤ 999999999999999 ⌝ }
-    ensures { λ _. ⌜ now (s .exit) ≡ paste (now (s .entry)) LETTERS (letters ∷ 1 ∷ time ∷ time ∷ imsi / 2 ^ 32 ∷ imsi % 2 ^ 32 ∷ nfm ∷ 0 ∷ rpm ∷ n ∷ []) ⌝ }
+    ensures { λ _. ⌜ now (s .exit) ≡ paste (now (s .entry)) LETTERS (letters ∷ CURRENT ∷ time ∷ time ∷ imsi / 2 ^ 32 ∷ imsi % 2 ^ 32 ∷ nfm ∷ 0 ∷ rpm ∷ n ∷ []) ⌝ }
 {
     s[at::LETTERS] = 0x00575250;
-    s[at::VERSION] = 1;
+    s[at::VERSION] = at::CURRENT;
     s[at::OPENED] = time;
     s[at::LAST] = time;
     s[at::QUOTIENT] = (imsi / 4294967296) as u32;

@@ -5,192 +5,19 @@ use rules::Answer;
 use rules::Outcome;
 ghost use mathlib.Core.Path.{_≡_};
 ghost use mathlib.Core.Bool.{true, cond};
-ghost use Prim.Native.Nat.{_+_, _%_, _<_, _≤_};
+ghost use Prim.Native.Nat.{_<_, _≤_};
 ghost use lib.ListN.{length};
 ghost use lib.Dec.{eqb};
 ghost use Rattle.rules.specs.Calls.{timed};
 ghost use Rattle.rules.specs.declared.Event.the-variants.{Outcome as outcome, Dropped as dropped};
 ghost use Rattle.rules.specs.declared.Outcome.the-variants.{Granted as granted, Silent as silent, Rejected as rejected};
-ghost use Rattle.rules.specs.Tables.{highestTime, action, moodOn, oneMore, interval};
-ghost use Rattle.rules.specs.Rules.{standing, wait, failed, onGranted, onFailed};
+ghost use Rattle.rules.specs.Tables.{highestTime};
+ghost use Rattle.rules.specs.Rules.{standing, failed, onGranted, onFailed};
 ghost use Rattle.buffer.specs.Places.{SIZE};
 ghost use Rattle.buffer.specs.Layout.{factsOf};
 ghost use Rattle.buffer.specs.Good.{good};
 ghost use Rattle.clock.specs.Call.{Says};
-ghost use Rattle.outcome.specs.Outcome.{clear, later, loaded, stored, rested, backed, checked, served};
-
-// The back-off of one service: its failures in a row, and the time at which its wait ends; 0 is none.
-pub struct Backoff {
-    pub failures: u32,
-    pub end: u32,
-}
-
-impl Backoff {
-    // After a grant there is none.
-    pub fn granted(self) -> Backoff
-        ensures { λ r. ⌜ r ≡ clear ⌝ }
-    {
-        self.cleared()
-    }
-
-    // After a failure: one more, to 255 at most, and a new end.
-    pub fn failed(self, end: u32) -> Backoff
-        ensures { λ r. ⌜ r ≡ later self end ⌝ }
-    {
-        let failures = self.failures;
-        if failures < 255 {
-            return Backoff {
-                failures: failures + 1,
-                end,
-            };
-        }
-        Backoff { failures: 255, end }
-    }
-
-    // No failure, and no end.
-    pub fn cleared(self) -> Backoff
-        ensures { λ r. ⌜ r ≡ clear ⌝ }
-    {
-        Backoff {
-            failures: 0,
-            end: 0,
-        }
-    }
-}
-
-// The back-off of service i.
-pub fn load(s: &[u32], i: usize) -> Backoff
-    requires { ⌜ length (now s) ≡ SIZE ⌝ }
-    requires { ⌜ i < 4 ⌝ }
-    ensures { λ r. ⌜ r ≡ loaded (now (s .entry)) i ⌝ }
-{
-    Backoff {
-        failures: fields::failures(s, i),
-        end: fields::end(s, i),
-    }
-}
-
-// Stores the back-off of service i.
-pub fn store(s: &mut [u32], i: usize, b: Backoff)
-    requires { ⌜ length (now s) ≡ SIZE ⌝ }
-    requires { ⌜ i < 4 ⌝ }
-    ensures { λ _. ⌜ now (s .exit) ≡ stored (now (s .entry)) i b ⌝ }
-{
-    fields::set_failures(s, i, b.failures);
-    fields::set_end(s, i, b.end);
-}
-
-// The actions of SM causes 0 to 63 where another network is there: 20 back off, 21 re-attach, 22 other network, 23 as 3GPP says.
-const ACTIONS: [u32; 64] = [
-    23,
-    23,
-    23,
-    23,
-    23,
-    23,
-    23,
-    23,
-    20,
-    23,
-    23,
-    23,
-    23,
-    23,
-    23,
-    23,
-    23,
-    23,
-    23,
-    23,
-    23,
-    23,
-    23,
-    23,
-    23,
-    23,
-    20,
-    20,
-    21,
-    20,
-    20,
-    20,
-    20,
-    20,
-    22,
-    20,
-    23,
-    23,
-    23,
-    23,
-    23,
-    23,
-    23,
-    23,
-    23,
-    23,
-    23,
-    23,
-    23,
-    23,
-    23,
-    23,
-    23,
-    23,
-    23,
-    23,
-    23,
-    23,
-    23,
-    23,
-    23,
-    23,
-    23,
-    23,
-];
-
-// The table's action of a cause.
-fn listed(cause: u32) -> u32
-    requires { ⌜ cause < 64 ⌝ }
-    ensures { λ r. ⌜ r ≡ action 2 cause 1 ⌝ }
-{
-    ACTIONS[cause as usize]
-}
-
-// What to do on a cause of a service; second is 1 where another network is there.
-pub fn action(service: u32, cause: u32, second: u32) -> u32
-    ensures { λ r. ⌜ r ≡ action service cause second ⌝ }
-{
-    if service != 2 {
-        return 20;
-    }
-    if 63 < cause {
-        return 23;
-    }
-    let n = listed(cause);
-    if n != 22 {
-        return n;
-    }
-    if second == 1 {
-        return 22;
-    }
-    20
-}
-
-// The mood of service 2 after a rejection: 2 permanent, 3 temporary.
-pub fn mood(cause: u32) -> u32
-    ensures { λ r. ⌜ r ≡ moodOn cause ⌝ }
-{
-    if (cause == 8)
-        | (cause == 27)
-        | (cause == 28)
-        | (cause == 29)
-        | (cause == 32)
-        | (cause == 33)
-    {
-        return 2;
-    }
-    3
-}
+ghost use Rattle.outcome.specs.Outcome.{rested, checked, served};
 
 // Whether a service stands at 1, asked.
 fn asked(s: &[u32], service: u32) -> bool
@@ -211,63 +38,6 @@ fn checks(s: &[u32], t: u32, range: bool, service: u32) -> u32
     clock::refuse(range, clock::timely(s, t), asked(s, service))
 }
 
-// The wait of a base interval: it and the remainder by it of what the card draws.
-fn spread_out(x: u64, base: u32) -> u32
-    requires { ⌜ (1 ≤ base) × (base ≤ 65535) ⌝ }
-    ensures { λ r. ⌜ r ≡ base + x % base ⌝ }
-{
-    base + (x % (base as u64)) as u32
-}
-
-// The base interval of one failure more than n: the last where there are fewer.
-fn base(s: &[u32], n: u32) -> u32
-    requires { ⌜ length (now s) ≡ SIZE ⌝ }
-    requires { ⌜ good (now s) ≡ true ⌝ }
-    ensures { λ r. ⌜ r ≡ interval (factsOf (now (s .entry)) .mode .intervals) (oneMore n) ⌝ }
-{
-    let m = fields::count(s);
-    if n < m {
-        return fields::interval(s, n as usize);
-    }
-    fields::interval(s, (m - 1) as usize)
-}
-
-// How long service i waits after one failure more. A card draws the same from 15 failures on, so the count for that need not stop at 255.
-fn wait(s: &[u32], i: usize) -> u32
-    requires { ⌜ length (now s) ≡ SIZE ⌝ }
-    requires { ⌜ good (now s) ≡ true ⌝ }
-    requires { ⌜ i < 4 ⌝ }
-    ensures { λ r. ⌜ r ≡ wait (factsOf (now (s .entry))) i ⌝ }
-{
-    let n = fields::failures(s, i);
-    spread_out(mixing::draw(fields::imsi(s), n + 1), base(s, n))
-}
-
-// The answer to a failure of service i whose action is n; with NFM 0 it is 23 in place of 20.
-fn failing(s: &[u32], i: usize, n: u32) -> Answer
-    requires { ⌜ length (now s) ≡ SIZE ⌝ }
-    requires { ⌜ good (now s) ≡ true ⌝ }
-    requires { ⌜ i < 4 ⌝ }
-    ensures { λ r. ⌜ r ≡ failed (factsOf (now (s .entry))) i n ⌝ }
-{
-    if n != 20 {
-        return Answer {
-            number: n,
-            second: 0,
-        };
-    }
-    if fields::nfm(s) != 1 {
-        return Answer {
-            number: 23,
-            second: 0,
-        };
-    }
-    Answer {
-        number: 20,
-        second: wait(s, i),
-    }
-}
-
 // Service i stands at x, and service 2 gets mood m.
 fn rest(s: &mut [u32], i: usize, x: u32, m: u32)
     requires { ⌜ length (now s) ≡ SIZE ⌝ }
@@ -278,20 +48,6 @@ fn rest(s: &mut [u32], i: usize, x: u32, m: u32)
     if i == 2 {
         fields::set_mood(s, m);
     }
-}
-
-// Service i backs off for w seconds from t where the answer's number n is 20.
-fn back(s: &mut [u32], t: u32, i: usize, n: u32, w: u32)
-    requires { ⌜ length (now s) ≡ SIZE ⌝ }
-    requires { ⌜ i < 4 ⌝ }
-    requires { ⌜ (n ≡ 20 → t + w < 4294967296) ⌝ }
-    ensures { λ _. ⌜ now (s .exit) ≡ backed (now (s .entry)) t i n w ⌝ }
-{
-    if n != 20 {
-        return;
-    }
-    let b = load(s, i).failed(t + w);
-    store(s, i, b);
 }
 
 // Where a granted service stands: service 2 is up, any other is idle.
@@ -312,8 +68,8 @@ fn grant(s: &mut [u32], t: u32, i: usize)
     ensures { λ _. ⌜ now (s .exit) ≡ served (now (s .entry)) t (onGranted i (factsOf (now (s .entry)) .services)) ⌝ }
 {
     clock::advance(s, t);
-    let b = load(s, i).granted();
-    store(s, i, b);
+    let b = backoff::load(s, i).granted();
+    backoff::store(s, i, b);
     rest(s, i, up(i), 0);
 }
 
@@ -326,10 +82,10 @@ fn fail(s: &mut [u32], t: u32, i: usize, n: u32, m: u32) -> Answer
     ensures { λ r. ⌜ r ≡ failed (factsOf (now (s .entry))) i n ⌝ }
     ensures { λ r. ⌜ now (s .exit) ≡ served (now (s .entry)) t (onFailed t i r m (factsOf (now (s .entry)) .services)) ⌝ }
 {
-    let a = failing(s, i, n);
+    let a = backoff::failing(s, i, n);
     clock::advance(s, t);
     rest(s, i, 0, m);
-    back(s, t, i, a.number, a.second);
+    backoff::back(s, t, i, a.number, a.second);
     a
 }
 
@@ -391,8 +147,8 @@ pub fn rejected_in(s: &mut [u32], t: u32, service: u32, cause: u32, second: u32)
         s,
         t,
         service as usize,
-        action(service, cause, second),
-        mood(cause),
+        causes::action(service, cause, second),
+        causes::mood(cause),
     )
 }
 

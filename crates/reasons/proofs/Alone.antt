@@ -19,7 +19,7 @@ use Rattle.rules.specs.State.{State, idle}
 use Rattle.rules.specs.Demand3.{Each}
 use Rattle.rules.proofs.Demand3.{first-is as first-number-is}
 use Rattle.rules.proofs.Again.{Ordered, ordered, each-other}
-use Rattle.request.specs.Request.{limitAt, waiting}
+use Rattle.deciding.specs.Limits.{limitAt, waiting}
 use Rattle.reasons.specs.Why.{alone, blocked, against, stand, weigh, howMany, leaving, times, refusedBy, reasons}
 use Rattle.reasons.proofs.Bits.{ones-weigh, firstNamed, first-weigh}
 

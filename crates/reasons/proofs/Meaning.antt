@@ -24,7 +24,7 @@ use Rattle.buffer.specs.Good.{good}
 use Rattle.buffer.proofs.Goodness.{valid-view}
 use Rattle.buffer.proofs.Sane.{valid-facts}
 use Rattle.clock.specs.Call.{callAnswer}
-use Rattle.request.specs.Request.{limitAt}
+use Rattle.deciding.specs.Limits.{limitAt}
 use Rattle.reasons.specs.declared.said.Why.{Why}
 use Rattle.reasons.specs.Why.{alone, against, bit, bitAt, stand, weigh, leaving, times, refusedBy, reasons, whyOf, RoomSays}
 use Rattle.reasons.specs.Meaning.{Means}

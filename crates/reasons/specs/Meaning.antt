@@ -13,7 +13,7 @@ use Rattle.rules.specs.Tables.{highestTime, fromNewest, rules}
 use Rattle.rules.specs.Leaves.{Leaves}
 use Rattle.rules.specs.Rules.{ruling}
 use Rattle.rules.specs.State.{State}
-use Rattle.request.specs.Request.{limitAt}
+use Rattle.deciding.specs.Limits.{limitAt}
 use Rattle.reasons.specs.declared.said.Why.{Why}
 use Rattle.reasons.specs.Why.{alone, against, bit, bitAt}
 

@@ -17,7 +17,7 @@ ghost use Rattle.rules.specs.Rules.{blocks, refusal};
 ghost use Rattle.buffer.specs.Places.{SIZE};
 ghost use Rattle.buffer.specs.Layout.{view, factsOf};
 ghost use Rattle.buffer.specs.Good.{good};
-ghost use Rattle.request.specs.Request.{limitAt};
+ghost use Rattle.deciding.specs.Limits.{limitAt};
 ghost use Rattle.reasons.specs.Why.{bit, weigh, leaving, refusedBy, reasons, whyOf, RoomSays};
 
 // Of one limit: whether it stands against the request, and the time that has to leave the hour, or 0.
@@ -81,7 +81,7 @@ fn look(s: &[u32], t: u32, q: u32, i: usize) -> Found
     ensures { λ r. ⌜ r .stands ≡ blocks (view (now (s .entry))) t (limitAt (factsOf (now (s .entry))) q i) ⌝ }
     ensures { λ r. ⌜ r .time ≡ cond (blocks (view (now (s .entry))) t (limitAt (factsOf (now (s .entry))) q i)) (leaving (view (now (s .entry))) (limitAt (factsOf (now (s .entry))) q i)) 0 ⌝ }
 {
-    let m = request::blocked_for(s, request::limit(s, q, i), t);
+    let m = deciding::blocked_for(s, deciding::limit(s, q, i), t);
     if m == 0 {
         return Found {
             stands: false,
@@ -101,7 +101,7 @@ fn standing(s: &[u32], t: u32, q: u32) -> Why
     requires { ⌜ refusal (factsOf (now s)) (timed t (ask q)) ≡ 0 ⌝ }
     ensures { λ r. ⌜ r ≡ reasons (view (now (s .entry))) t q ⌝ }
 {
-    let held = request::left(s, t, q) != 0;
+    let held = deciding::left(s, t, q) != 0;
     let n1 = look(s, t, q, 0);
     let f1 = look(s, t, q, 1);
     let f2 = look(s, t, q, 2);
@@ -143,7 +143,7 @@ fn why_in(s: &[u32], t: u32, q: u32) -> Why
     requires { ⌜ good (now s) ≡ true ⌝ }
     ensures { λ r. ⌜ r ≡ reasons (view (now (s .entry))) t q ⌝ }
 {
-    let n = request::refusal(s, t, q);
+    let n = deciding::refusal(s, t, q);
     if n != 0 {
         return refused(n);
     }
@@ -154,7 +154,7 @@ fn why_in(s: &[u32], t: u32, q: u32) -> Why
 pub fn why(state: &[u32], time: u32, kind: u32) -> Why
     ensures { λ r. ⌜ r ≡ whyOf (now (state .entry)) time kind ⌝ }
 {
-    if !buffer::is_good(state) {
+    if !inspect::is_good(state) {
         return refused(1);
     }
     why_in(state, time, kind)

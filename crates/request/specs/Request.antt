@@ -1,32 +1,12 @@
 -- What the parts of a request do to the places. Assumes nothing.
 use Prim.Native.Nat.{ℕ, _+_, _-_}
-use mathlib.Core.Path.{_≡_}
-use mathlib.Core.Bool.{false, cond}
+use mathlib.Core.Bool.{cond}
 use mathlib.Core.List.{List}
 use lib.Dec.{leb, eqb}
 use lib.ListN.{getD, set}
-use Rattle.rules.specs.Tables.{attach, among, counting, oneMore}
-use Rattle.rules.specs.Rules.{Limit, limit, limits}
-use Rattle.rules.specs.State.{Facts}
+use Rattle.rules.specs.Tables.{among, counting, oneMore}
 use Rattle.buffer.specs.Places.{STANDING, COUNTERS}
-use Rattle.buffer.specs.Layout.{place}
 use Rattle.buffer.specs.Lists.{permitted}
-use Rattle.request.specs.declared.Row.{Row}
-
--- row i, 0 to 6, of the limits on request q
-abbrev pub limitAt : Facts → ℕ → ℕ → Limit
-limitAt f q i = getD (limits f q) i (limit 0 false 0 attach)
-
--- a row of the code is that limit
-pub record RowOf (l : Limit) (r : Row) : Type 0 where
-  pub number : r .number ≡ l .number
-  pub applies : r .applies ≡ l .applies
-  pub most : r .most ≡ l .most
-  pub list : r .list ≡ place (l .kind)
-
--- seconds left of the back-off that holds request q, and 0 where none runs
-abbrev pub waiting : Facts → ℕ → ℕ → ℕ
-waiting f t q = cond (leb q 3) (getD (f .services .ends) q 0 - t) 0
 
 -- counter i after a block
 abbrev pub bumped : List ℕ → ℕ → List ℕ

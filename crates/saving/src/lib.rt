@@ -51,7 +51,7 @@ pub fn save(s: &mut [u32], out: &mut [u8]) -> Answer
             second: 0,
         };
     }
-    if !buffer::is_good(s) {
+    if !inspect::is_good(s) {
         return Answer {
             number: 1,
             second: 0,

@@ -11,7 +11,7 @@ ghost use Rattle.rules.specs.declared.Event.the-variants.{Ask as ask, Tick as t
 ghost use Rattle.rules.specs.Tables.{ascending};
 ghost use Rattle.buffer.specs.Places.{SIZE};
 ghost use Rattle.buffer.specs.Good.{good};
-ghost use Rattle.buffer.specs.Lists.{fullFor};
+ghost use Rattle.permits.specs.Permits.{fullFor};
 ghost use Rattle.clock.specs.Call.{Says};
 
 // A number mixed.
@@ -27,7 +27,7 @@ pub extern "C" fn timing_mix(x: u64) -> u64
 pub extern "C" fn timing_is_good(s: &[u32]) -> bool
     ensures { λ r. ⌜ r ≡ good (now (s .entry)) ⌝ }
 {
-    buffer::is_good(s)
+    inspect::is_good(s)
 }
 
 // For how long a list is full.
@@ -38,7 +38,7 @@ pub extern "C" fn timing_full_for(p: &[u32], n: u32, t: u32, most: u32) -> u32
     requires { ⌜ 0 < most ⌝ }
     ensures { λ r. ⌜ r ≡ fullFor t most (take n (now (p .entry))) ⌝ }
 {
-    buffer::lists::full_for(p, n, t, most)
+    permits::full_for(p, n, t, most)
 }
 
 // The clock call.

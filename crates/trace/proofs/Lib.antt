@@ -1,3 +1,1 @@
-pub mod Cutting
-pub mod Whole
 pub mod Turning

@@ -6,10 +6,10 @@ use Prim.Native.Nat.{ℕ, _+_, _≤_}
 use native.Mathlib.Omega.{arith}
 use lib.ListN.{length, take}
 use lib.Seq.{slice, slice-empty, take-at, length-take-le}
-use Rattle.trace.specs.declared.Carry.{Carry}
-use Rattle.trace.specs.declared.Left.{Left}
-use Rattle.trace.specs.Through.{leaves}
-use Rattle.trace.specs.Cut.{begun, Kept, Answered, Turned, SomeTurned}
+use Rattle.answering.specs.declared.Carry.{Carry}
+use Rattle.answering.specs.declared.Left.{Left}
+use Rattle.answering.specs.Through.{leaves}
+use Rattle.answering.specs.Cut.{begun, Kept, Answered, Turned, SomeTurned}
 
 -- bytes are read after those that are held
 pub held-stay : (k : ℕ) (l m : List ℕ) → k ≤ length l → take k (take k l ++ m) ≡ take k l

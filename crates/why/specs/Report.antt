@@ -9,6 +9,7 @@ use Rattle.text.specs.Printed.{printNum, printTwo}
 use Rattle.image.specs.Image.{numbersOf}
 use Rattle.reasons.specs.declared.said.Why.{Why}
 use Rattle.rules.specs.Tables.{rules}
+use Rattle.buffer.specs.Places.{BYTES}
 use Rattle.reasons.specs.Why.{refusedBy, whyOf}
 use Rattle.why.specs.declared.Loaded.{Loaded}
 use Rattle.why.specs.declared.Loaded.the-variants.{Bytes, Not}
@@ -28,7 +29,7 @@ report r = cond (eqb (r .refusal) 0) (printTwo (r .first) (r .count) ++ linesFor
 
 -- 5,320 bytes are 1,330 numbers; a file of another length is refusal 1
 unfoldable pub reportOn : List ℕ → ℕ → ℕ → List ℕ
-reportOn bytes t q = cond (eqb (length bytes) 5320) (report (whyOf (numbersOf bytes) t q)) (report (refusedBy 1))
+reportOn bytes t q = cond (eqb (length bytes) BYTES) (report (whyOf (numbersOf bytes) t q)) (report (refusedBy 1))
 
 -- ---- The words
 

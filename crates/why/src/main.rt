@@ -1,6 +1,7 @@
 // why STATE TIME REQUEST: says why the gate would say no to a request at a time, from a state that is kept in a file: 1,330 numbers of four bytes
 // each, the lowest first. It prints the first rule that stands and how many there are, then a line for each: the back-off's number, or a
 // limit's with the permit time that has to leave the hour. A refusal is its number and 0.
+use buffer::places;
 use libc::STDERR_FILENO;
 use libc::STDOUT_FILENO;
 use reasons::said::Why;
@@ -74,10 +75,10 @@ fn answer(bytes: &[u8], time: u32, kind: u32, out: &mut [u8]) -> usize
     ensures { λ r. ⌜ take r (now (out .exit)) ≡ reportOn (now (bytes .entry)) time kind ⌝ }
     ensures { λ r. ⌜ r ≤ 198 ⌝ }
 {
-    if bytes.len() != 5320 {
+    if bytes.len() != places::BYTES {
         return text::put_two(out, 0, 1, 0);
     }
-    let mut state = [0u32; 1330];
+    let mut state = [0u32; places::SIZE];
     image::read(bytes, &mut state);
     tell(out, reasons::why(&state, time, kind))
 }
@@ -138,7 +139,7 @@ fn load(room: &mut [u8]) -> Loaded
 
 // Reads the state, and prints what stands against request `kind` at `time`.
 fn say(time: u32, kind: u32) {
-    let mut bytes = [0u8; 5321];
+    let mut bytes = [0u8; places::BYTES + 1];
     let Loaded::Bytes(n) = load(&mut bytes) else {
         return;
     };

@@ -3,7 +3,7 @@ use mathlib.Core.List.{[], _∷_}
 use Prim.Native.Nat.{_/_, _%_, _^_}
 use native.Mathlib.Omega.{arith}
 use lib.ListN.{length-set}
-use Rattle.buffer.specs.Places.{LETTERS}
+use Rattle.buffer.specs.Places.{CURRENT, LETTERS}
 use Rattle.buffer.specs.Layout.{letters}
 use Rattle.opening.proofs.Copying.{stored}
 use borrow.Author.Needs.{needs}
@@ -52,7 +52,7 @@ same-length c = search needs
 returns : tie.Need-returns
 returns c =
     let a = c .args in
-    stored (a .s .now) (letters ∷ 1 ∷ a .time ∷ a .time ∷ a .imsi / 2 ^ 32 ∷ a .imsi % 2 ^ 32 ∷ a .nfm ∷ 0 ∷ a .rpm ∷ a .n ∷ []) LETTERS (omega arith)
+    stored (a .s .now) (letters ∷ CURRENT ∷ a .time ∷ a .time ∷ a .imsi / 2 ^ 32 ∷ a .imsi % 2 ^ 32 ∷ a .nfm ∷ 0 ∷ a .rpm ∷ a .n ∷ []) LETTERS (omega arith)
 
 pub head-spec : {M : Type 1} → statement M
 head-spec =

@@ -1,5 +1,6 @@
 -- `outcome::fail` meets its contract. Assumes nothing.
-use Rattle.outcome.proofs.Outcomes.{end-fits, fails}
+use Rattle.backoff.proofs.Backoffs.{end-fits}
+use Rattle.outcome.proofs.Outcomes.{fails}
 use borrow.Author.Needs.{needs}
 use Rattle.outcome.proofs.fail.Statement.{statement}
 use Rattle.outcome.proofs.fail.Tie as tie
@@ -18,7 +19,7 @@ back-requires c κs =
     let x = c .before .before .before .before .before .before .before .before .before .before .before .before in
     let a = c .before .before .before .before .before .before .before .before .before .failing in
     let h = x .pre .1 .1 in
-    (search needs, (h .0, end-fits (x .args .s .now) (x .pre .1 .0) (x .args .t) (x .args .i) (h .0) (x .args .n) (a .result) (a .ensures) (h .1)))
+    (search needs, (h .0, end-fits (x .args .s .now) (x .pre .1 .0) (x .args .t) (x .args .i) (x .args .n) (a .result) (a .ensures) (h .1)))
 
 same-length : tie.Need-same-length
 same-length c = search needs

@@ -1,7 +1,8 @@
 -- `outcome::grant` meets its contract. Assumes nothing.
 use mathlib.Core.Path.{ap, _∙_}
 use Prim.Native.Nat.{ℕ}
-use Rattle.outcome.specs.Outcome.{stored, rested}
+use Rattle.backoff.specs.Backoffs.{stored}
+use Rattle.outcome.specs.Outcome.{rested}
 use Rattle.outcome.proofs.Outcomes.{grants}
 use borrow.Author.Needs.{needs}
 use Rattle.outcome.proofs.grant.Statement.{statement}

@@ -7,7 +7,7 @@ use Rattle.rules.specs.declared.Event.the-variants.{Ask as ask}
 use Rattle.rules.specs.Rules.{refusal}
 use Rattle.rules.proofs.Checks.{on-time}
 use Rattle.buffer.specs.Layout.{factsOf}
-use Rattle.request.proofs.Deciding.{row-stands, row-rises, row-on, row-time, row-off}
+use Rattle.deciding.proofs.Deciding.{row-stands, row-rises, row-on, row-time, row-off}
 use borrow.Author.Needs.{needs}
 use Rattle.reasons.proofs.look.Statement.{statement}
 use Rattle.reasons.proofs.look.Tie as tie

@@ -5,8 +5,8 @@ use mathlib.Core.List.{List}
 use Prim.Native.Nat.{ℕ, _≤_, _-_}
 use native.Mathlib.Omega.{arith}
 use lib.ListN.{length}
-use Rattle.trace.specs.Known.{Known}
-use Rattle.trace.specs.Cut.{restLeaves}
+use Rattle.answering.specs.Known.{Known}
+use Rattle.answering.specs.Cut.{restLeaves}
 use borrow.Author.Needs.{needs}
 use Rattle.trace.proofs.all.Statement.{statement}
 use Rattle.trace.proofs.all.Tie as tie

@@ -8,8 +8,8 @@ use lib.ListN.{length}
 use borrow.Author.Tests.{not-true}
 use Rattle.rules.proofs.Checks.{and-left, and-right}
 use Rattle.text.proofs.Choice.{absurd-bool}
-use Rattle.trace.specs.Known.{Known}
-use Rattle.trace.specs.Cut.{SomeTurned}
+use Rattle.answering.specs.Known.{Known}
+use Rattle.answering.specs.Cut.{SomeTurned}
 use Rattle.trace.proofs.Turning.{turned-none, turned-on}
 use borrow.Author.Needs.{needs}
 use Rattle.trace.proofs.run.Statement.{statement}

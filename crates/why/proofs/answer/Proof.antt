@@ -2,6 +2,7 @@
 use mathlib.Core.Path.{ap, _∙_}
 use mathlib.Core.List.{List}
 use Prim.Native.Nat.{ℕ}
+use Rattle.buffer.specs.Places.{BYTES}
 use Rattle.reasons.specs.Why.{whyOf}
 use native.Mathlib.Omega.{arith}
 use lib.ListN.{length}
@@ -21,7 +22,7 @@ same-length c = search needs
 
 returns : tie.Need-returns
 unfolding report reportOn
-returns c = let x = c .before .before .before .before .before .before .before .args in let p = c .before .before .put-two .ensures in (rw (ne-eqb (length (x .bytes .now)) 5320 (c .before .before .before .before .if1 .taken)) (written (x .out .now) _ (printTwo 1 0) _ (p .0 .0) (p .0 .1) (omega (arith, p .0 .1, p .1))), omega (arith, p .1))
+returns c = let x = c .before .before .before .before .before .before .before .args in let p = c .before .before .put-two .ensures in (rw (ne-eqb (length (x .bytes .now)) BYTES (c .before .before .before .before .if1 .taken)) (written (x .out .now) _ (printTwo 1 0) _ (p .0 .0) (p .0 .1) (omega (arith, p .0 .1, p .1))), omega (arith, p .1))
 
 slice-aggregate-read : tie.Need-slice-aggregate-read
 slice-aggregate-read c = search needs

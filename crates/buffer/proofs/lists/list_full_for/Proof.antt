@@ -2,7 +2,8 @@
 use mathlib.Core.List.{List}
 use lib.Seq.{take-take}
 use Rattle.buffer.specs.Layout.{row}
-use Rattle.buffer.specs.Lists.{Listed, fullFor}
+use Rattle.buffer.specs.Lists.{Listed}
+use Rattle.permits.specs.Permits.{fullFor}
 use Rattle.buffer.specs.Segments.{part}
 use Prim.Native.Nat.{ℕ, _+_, _*_, _-_}
 use mathlib.Core.Path.{_≡_, ap, _∙_}

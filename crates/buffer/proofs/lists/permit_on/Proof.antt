@@ -5,10 +5,9 @@ use native.Mathlib.Omega.{arith}
 use Rattle.buffer.specs.Lists.{permitted}
 use mathlib.Core.List.{List}
 use lib.ListN.{length, getD, set}
-use Rattle.buffer.specs.Lists.{appended}
+use Rattle.permits.specs.Permits.{appended}
 use Rattle.buffer.specs.Segments.{part, paste}
-use Rattle.buffer.proofs.Scans.{back}
-use Rattle.buffer.proofs.Listing.{appended-length}
+use Rattle.buffer.proofs.Listing.{back, appended-length}
 use borrow.Author.Needs.{needs}
 use Rattle.buffer.proofs.lists.permit_on.Statement.{statement}
 use Rattle.buffer.proofs.lists.permit_on.Tie as tie
