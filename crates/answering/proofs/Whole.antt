@@ -1,4 +1,5 @@
--- The input cut to its end: what waits, and then whatever comes later, is what the whole prints; and so of the buffer. Assumes nothing.
+-- The input cut to its end: what waits, and then whatever comes later, is what the whole prints;
+-- and so of the buffer. Assumes nothing.
 use mathlib.Core.Path.{_≡_, sym, ap, _∙_}
 use mathlib.Core.List.{List, [], _++_}
 use lib.ListN.{take}

@@ -1,4 +1,5 @@
--- What is promised of cutting the input into lines: what was printed, with what is still to be printed, is what the whole prints. Assumes nothing.
+-- What is promised of cutting the input into lines: what was printed, with what is still to be
+-- printed, is what the whole prints. Assumes nothing.
 use mathlib.Core.Path.{_≡_}
 use mathlib.Core.Bool.{Bool, true, false}
 use mathlib.Core.List.{List, [], _++_}
@@ -29,17 +30,20 @@ pub record Cut (buf : List ℕ) (end : ℕ) (p : Left) (b out : List ℕ) (q : L
   pub printed : (later : List ℕ) → waiting y q ++ restPrints buf end q x later ≡ waiting out p ++ restPrints buf end p b later
   pub left : (later : List ℕ) → restLeaves buf end q x later ≡ restLeaves buf end p b later
 
--- what is kept of the line that has begun: the first k bytes of y, with skip, stand for the line of p in the input buf, whatever the buffer and whatever comes later
+-- what is kept of the line that has begun: the first k bytes of y, with skip, stand for the line of
+-- p in the input buf, whatever the buffer and whatever comes later
 pub record Kept (buf : List ℕ) (p : Left) (skip : Bool) (k : ℕ) (y : List ℕ) : Type 0 where
   pub prints-on : (later b : List ℕ) → prints skip (take k y) later b ≡ prints (p .skip) (begun buf p) later b
   pub leaves-on : (later b : List ℕ) → leaves skip (take k y) later b ≡ leaves (p .skip) (begun buf p) later b
 
--- the whole input, after the first `held` bytes, from the buffer b to q and the buffer x: cut to its end where all was written
+-- the whole input, after the first `held` bytes, from the buffer b to q and the buffer x: cut to
+-- its end where all was written
 pub record Answered (buf : List ℕ) (end : ℕ) (skip : Bool) (held : ℕ) (b : List ℕ) (q : Left) (x : List ℕ) : Type 0 where
   pub left : (later : List ℕ) → restLeaves buf end q x later ≡ leaves skip (take held buf) (slice held end buf ++ later) b
   pub whole : q .sent ≡ true → q .place ≡ end
 
--- the bytes `read` came after the first `held` bytes of buf: from the buffer b to what is kept, in y, and the buffer x
+-- the bytes `read` came after the first `held` bytes of buf: from the buffer b to what is kept, in
+-- y, and the buffer x
 pub record Turned (skip : Bool) (held : ℕ) (buf read b : List ℕ) (r : Carry) (y x : List ℕ) : Type 0 where
   -- with more to come: whatever it is, all that is left is what the whole leaves
   pub goes-on : r .more ≡ true → (later : List ℕ) → leaves (r .skip) (take (r .held) y) later x ≡ leaves skip (take held buf) (read ++ later) b
@@ -50,6 +54,7 @@ pub record Turned (skip : Bool) (held : ℕ) (buf read b : List ℕ) (r : Carry)
 abbrev pub SomeTurned : Bool → ℕ → (buf b : List ℕ) → Carry → (y x : List ℕ) → Type 0
 SomeTurned skip held buf b r y x = (read : List ℕ) × Turned skip held buf read b r y x
 
--- the whole input, where all of it was answered and written: the buffer x is what some bytes leave of the buffer b
+-- the whole input, where all of it was answered and written: the buffer x is what some bytes leave
+-- of the buffer b
 abbrev pub Whole : Bool → (b x : List ℕ) → Type 0
 Whole r b x = r ≡ true → (read : List ℕ) × (x ≡ leaves false [] read b)

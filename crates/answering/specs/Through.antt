@@ -1,4 +1,5 @@
--- What the bytes of the input print and do to the buffer, one byte after the other. Assumes nothing.
+-- What the bytes of the input print and do to the buffer, one byte after the other. Assumes
+-- nothing.
 use mathlib.Core.Bool.{Bool, false, cond, not, _&&_}
 use mathlib.Core.List.{List, [], _∷_, _++_}
 use Prim.Native.Nat.{ℕ}

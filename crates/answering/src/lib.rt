@@ -1,5 +1,6 @@
-// The lines of an input, one after the other, and their answers: bytes that stand in one room are cut at each LF, and what each line is answered goes
-// to another room. Nothing is read or written here.
+// The lines of an input, one after the other, and their answers: bytes that stand in one room are
+// cut at each LF, and what each line is answered goes to another room. Nothing is read or written
+// here.
 ghost use Prim.Native.Nat.{_+_, _-_, _≤_, _<_};
 ghost use mathlib.Core.Path.{_≡_};
 ghost use mathlib.Core.List.{[], _++_};
@@ -9,8 +10,9 @@ ghost use Rattle.answering.specs.Known.{Known};
 ghost use Rattle.answering.specs.Through.{linePrints, lineLeaves, prints, leaves};
 ghost use Rattle.answering.specs.Cut.{Cut, Kept};
 
-// What is kept from one read to the next: how many bytes of an unfinished line stand at the front of the input, whether they are of a line
-// that is too long and is passed over to its LF, whether the buffer is known to be good, whether to read on, and whether all writes went well.
+// What is kept from one read to the next: how many bytes of an unfinished line stand at the front
+// of the input, whether they are of a line that is too long and is passed over to its LF, whether
+// the buffer is known to be good, whether to read on, and whether all writes went well.
 pub struct Carry {
     pub held: usize,
     pub skip: bool,
@@ -19,8 +21,9 @@ pub struct Carry {
     pub sent: bool,
 }
 
-// How far the input is cut into lines: where the line that has begun starts, the place of the next byte, whether the line is too long and was
-// passed over, how many bytes of output wait, whether the buffer is known to be good, and whether all writes went well.
+// How far the input is cut into lines: where the line that has begun starts, the place of the next
+// byte, whether the line is too long and was passed over, how many bytes of output wait, whether
+// the buffer is known to be good, and whether all writes went well.
 pub struct Left {
     pub start: usize,
     pub place: usize,
@@ -98,7 +101,8 @@ fn next(state: &mut [u32], buf: &[u8], end: usize, out: &mut [u8], p: Left) -> L
     }
 }
 
-// Cuts the input into lines and answers each, up to `end` or until there is no room for another answer.
+// Cuts the input into lines and answers each, up to `end` or until there is no room for another
+// answer.
 pub fn cut(state: &mut [u32], buf: &[u8], end: usize, out: &mut [u8], p: Left) -> Left
     requires { ⌜ Known (p .known) (now state) ⌝ }
     requires { ⌜ length (now out) ≡ 65536 ⌝ }
@@ -128,7 +132,8 @@ fn shift(buf: &mut [u8], start: usize, end: usize)
     }
 }
 
-// What is kept of the line that has begun, at the front of the input: its bytes, or that it is too long.
+// What is kept of the line that has begun, at the front of the input: its bytes, or that it is too
+// long.
 pub fn keep(buf: &mut [u8], p: Left) -> Carry
     requires { ⌜ (p .«start» ≤ p .place) × (p .place ≤ length (now buf)) ⌝ }
     ensures { λ r. ⌜ (r .held ≤ 256) × ((r .known ≡ p .known) × ((r .more ≡ p .sent) × (r .sent ≡ p .sent))) ⌝ }

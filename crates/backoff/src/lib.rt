@@ -1,4 +1,5 @@
-// The back-off of a service: a small value that each outcome hands back moved on, its two places, and how long it waits.
+// The back-off of a service: a small value that each outcome hands back moved on, its two places,
+// and how long it waits.
 use buffer::fields;
 use rules::Answer;
 ghost use mathlib.Core.Path.{_≡_};
@@ -12,7 +13,8 @@ ghost use Rattle.buffer.specs.Layout.{factsOf};
 ghost use Rattle.buffer.specs.Good.{good};
 ghost use Rattle.backoff.specs.Backoffs.{clear, later, loaded, stored, backed};
 
-// The back-off of one service: its failures in a row, and the time at which its wait ends; 0 is none.
+// The back-off of one service: its failures in a row, and the time at which its wait ends; 0 is
+// none.
 pub struct Backoff {
     pub failures: u32,
     pub end: u32,
@@ -94,7 +96,8 @@ fn base(s: &[u32], n: u32) -> u32
     fields::interval(s, (m - 1) as usize)
 }
 
-// How long service i waits after one failure more. A card draws the same from 15 failures on, so the count for that need not stop at 255.
+// How long service i waits after one failure more. A card draws the same from 15 failures on, so
+// the count for that need not stop at 255.
 fn wait(s: &[u32], i: usize) -> u32
     requires { ⌜ length (now s) ≡ SIZE ⌝ }
     requires { ⌜ good (now s) ≡ true ⌝ }

@@ -8,12 +8,12 @@ use lib.Dec.{lit<}
 use lib.ListN.{length, getD, set, length-set}
 use Rattle.rules.specs.Rules.{newest}
 use Rattle.rules.specs.State.{Facts, withLast, withMode, withCounters, withServices, idle}
-use Rattle.buffer.specs.Places.{SIZE, LAST, NFM, START, COUNT, INTERVALS, FAILURES, ENDS, STANDING, MOOD, COUNTERS}
+use Rattle.buffer.specs.Places.{LAST, NFM, START, COUNT, INTERVALS, FAILURES, ENDS, STANDING, MOOD, COUNTERS}
 use Rattle.buffer.specs.Segments.{concat, pad, paste}
 use Rattle.buffer.specs.Layout.{widths, segments, spread, rows, factsOf, view}
 use Rattle.buffer.specs.Good.{Shape, good}
 use Rattle.buffer.specs.Lists.{Listed, permitted}
-use Rattle.buffer.proofs.Laying.{Shaped, get, put, sizes, length-pad, paste-whole, length-lay}
+use Rattle.buffer.proofs.Laying.{Shaped, get, put, sizes, length-pad, paste-whole}
 use Rattle.buffer.proofs.Segments.{paste-seg, width-set}
 use Rattle.buffer.proofs.Goodness.{shape-lay, shaped, lay-view, good-shape}
 use Rattle.buffer.proofs.Listing.{shaped-permit, permit-row, row-listed}
@@ -44,9 +44,6 @@ laid-good b h = laid-shaped b (good-shape b h)
 module _ {b : List ℕ} {f : Facts} {rs : List (List ℕ)} (l : Laid b f rs) where
   pub laid-as : {x : List ℕ} → x ≡ b → Laid x f rs
   laid-as e = record { shaped = l .shaped; is = e ∙ l .is }
-
-  pub laid-long : length b ≡ SIZE
-  laid-long = ap length (l .is) ∙ length-lay f rs (l .shaped)
 
   pub laid-shape : Shape b
   laid-shape = rw (l .is) (shape-lay f rs (l .shaped))

@@ -1,4 +1,5 @@
--- Which buffers are good: a test for each line of document 01's table, in its order. Assumes nothing.
+-- Which buffers are good: the length, the version, and a test for each other line of document 01's
+-- table, in its order. Assumes nothing.
 use Prim.Native.Nat.{ℕ, _+_, _*_, _^_, _≤_, _<_}
 use mathlib.Core.Path.{_≡_}
 use mathlib.Core.Bool.{Bool, true, _&&_, _||_, not}
@@ -146,7 +147,8 @@ pub record Shape (b : List ℕ) : Type 0 where
   pub short : (k : ℕ) → k < 5 → getD b (LENGTHS + k) 0 ≤ 255
   pub clear : (k : ℕ) → k < 5 → zeros (unused (getD b (LENGTHS + k) 0) (part b (LISTS + 255 * k) 255)) ≡ true
 
--- ---- A state that a buffer can hold: the same of its values, and each list of numbers as long as its places
+-- ---- A state that a buffer can hold: the same of its values, and each list of numbers as long as
+-- its places
 
 unfoldable pub fits : State → List Bool
 fits v =

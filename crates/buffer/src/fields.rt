@@ -11,17 +11,14 @@ ghost use Rattle.buffer.specs.Places.{
   COUNTERS,
   ENDS,
   FAILURES,
-  HOUSE,
   INTERVALS,
   LAST,
   MOOD,
   NFM,
   OPENED,
-  PARAMETERS,
   QUOTIENT,
   RATES,
   REMAINDER,
-  RPM,
   STANDING,
   START,
 };
@@ -58,28 +55,12 @@ pub fn start(s: &[u32]) -> u32
     s[at::START]
 }
 
-// RPM: 0 or 1.
-pub fn rpm(s: &[u32]) -> u32
-    requires { ⌜ length (now s) ≡ SIZE ⌝ }
-    ensures { λ r. ⌜ r ≡ getD (now (s .entry)) RPM 0 ⌝ }
-{
-    s[at::RPM]
-}
-
 // How many base intervals there are.
 pub fn count(s: &[u32]) -> u32
     requires { ⌜ length (now s) ≡ SIZE ⌝ }
     ensures { λ r. ⌜ r ≡ getD (now (s .entry)) COUNT 0 ⌝ }
 {
     s[at::COUNT]
-}
-
-// Service 2's mood.
-pub fn mood(s: &[u32]) -> u32
-    requires { ⌜ length (now s) ≡ SIZE ⌝ }
-    ensures { λ r. ⌜ r ≡ getD (now (s .entry)) MOOD 0 ⌝ }
-{
-    s[at::MOOD]
 }
 
 fn wide(x: u32) -> u64
@@ -103,24 +84,6 @@ pub fn interval(s: &[u32], i: usize) -> u32
     ensures { λ r. ⌜ r ≡ getD (now (s .entry)) (INTERVALS + i) 0 ⌝ }
 {
     s[at::INTERVALS + i]
-}
-
-// Parameter i of N1, T1, F1, F2, F3, F4.
-pub fn parameter(s: &[u32], i: usize) -> u32
-    requires { ⌜ length (now s) ≡ SIZE ⌝ }
-    requires { ⌜ i < 6 ⌝ }
-    ensures { λ r. ⌜ r ≡ getD (now (s .entry)) (PARAMETERS + i) 0 ⌝ }
-{
-    s[at::PARAMETERS + i]
-}
-
-// House limit i of A1, S1.
-pub fn house(s: &[u32], i: usize) -> u32
-    requires { ⌜ length (now s) ≡ SIZE ⌝ }
-    requires { ⌜ i < 2 ⌝ }
-    ensures { λ r. ⌜ r ≡ getD (now (s .entry)) (HOUSE + i) 0 ⌝ }
-{
-    s[at::HOUSE + i]
 }
 
 // Leak rate i of LR-1, LR-2, LR-3.

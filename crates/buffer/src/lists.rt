@@ -1,5 +1,6 @@
-// The five lists of permit times: 0 attach, 1 activation, 2 PDP, 3 SMS, 4 reset. Each has 255 places of its own, lent on as a part of the
-// buffer to the routines of `permits`, and its length in another place.
+// The five lists of permit times: 0 attach, 1 activation, 2 PDP, 3 SMS, 4 reset. Each has 255
+// places of its own, lent on as a part of the buffer to the routines of `permits`, and its length
+// in another place.
 use crate::places as at;
 ghost use mathlib.Core.Path.{_≡_};
 ghost use mathlib.Core.Bool.{true};
@@ -9,7 +10,8 @@ ghost use Rattle.buffer.specs.Layout.{row};
 ghost use Rattle.buffer.specs.Lists.{Listed, permitted};
 ghost use Rattle.permits.specs.Permits.{fullFor};
 
-// A permit at t on list k: the list's places are lent to `append`, and its new length is stored. No other place changes.
+// A permit at t on list k: the list's places are lent to `append`, and its new length is stored. No
+// other place changes.
 pub fn permit_on(s: &mut [u32], k: usize, t: u32)
     requires { ⌜ Listed (now s) k ⌝ }
     ensures { λ _. ⌜ now (s .exit) ≡ permitted (now (s .entry)) k t ⌝ }
@@ -22,7 +24,8 @@ pub fn permit_on(s: &mut [u32], k: usize, t: u32)
     s[j] = m;
 }
 
-// The seconds until fewer than `most` of list k, which rises to t, are in the hour; 0 where fewer are.
+// The seconds until fewer than `most` of list k, which rises to t, are in the hour; 0 where fewer
+// are.
 pub fn list_full_for(s: &[u32], k: usize, t: u32, most: u32) -> u32
     requires { ⌜ Listed (now s) k ⌝ }
     requires { ⌜ ascending 0 t (row (now s) k) ≡ true ⌝ }

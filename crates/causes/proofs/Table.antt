@@ -1,4 +1,5 @@
--- A table that follows a rule: all of its entries are tested at once, by computing. Assumes nothing.
+-- A table that follows a rule: all of its entries are tested at once, by computing. Assumes
+-- nothing.
 use mathlib.Core.Path.{_≡_, refl, sym, ap, _∙_}
 use mathlib.Core.Bool.{Bool, true, false, cond, _&&_}
 use mathlib.Core.List.{List, [], _∷_}

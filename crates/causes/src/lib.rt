@@ -1,9 +1,11 @@
-// What to do on a cause that the network gives, and what it means for the mood of service 2. No buffer is known here.
+// What to do on a cause that the network gives, and what it means for the mood of service 2. No
+// buffer is known here.
 ghost use mathlib.Core.Path.{_≡_};
 ghost use Prim.Native.Nat.{_<_};
 ghost use Rattle.rules.specs.Tables.{action, moodOn};
 
-// The actions of SM causes 0 to 63 where another network is there: 20 back off, 21 re-attach, 22 other network, 23 as 3GPP says.
+// The actions of SM causes 0 to 63 where another network is there: 20 back off, 21 re-attach, 22
+// other network, 23 as 3GPP says.
 const ACTIONS: [u32; 64] = [
     23,
     23,

@@ -1,4 +1,5 @@
--- The rows of the table of limits, and the answer to a request, from what each test found. Assumes nothing.
+-- The rows of the table of limits, and the answer to a request, from what each test found. Assumes
+-- nothing.
 use mathlib.Core.Path.{_≡_, refl, sym, ap, _∙_}
 use mathlib.Core.Bool.{Bool, true, false, cond, _&&_}
 use mathlib.Core.List.{List}

@@ -1,4 +1,5 @@
--- What the parts of a decision read: the rows of the limits, and what is left of a back-off. Assumes nothing.
+-- What the parts of a decision read: the rows of the limits, and what is left of a back-off.
+-- Assumes nothing.
 use Prim.Native.Nat.{ℕ, _-_}
 use mathlib.Core.Path.{_≡_}
 use mathlib.Core.Bool.{false, cond}

@@ -1,4 +1,5 @@
-// How a request is decided, on a buffer that is known to be good, by reading alone: the checks, the back-off, and the limits row by row.
+// How a request is decided, on a buffer that is known to be good, by reading alone: the checks, the
+// back-off, and the limits row by row.
 use buffer::fields;
 use buffer::lists;
 use buffer::places as at;
@@ -20,7 +21,8 @@ ghost use Rattle.buffer.specs.Good.{good};
 ghost use Rattle.buffer.specs.Lists.{Listed};
 ghost use Rattle.deciding.specs.Limits.{limitAt, RowOf, waiting};
 
-// A row of the table of limits: its number, whether it applies to the request, the most permits in an hour, and the list on which they stand.
+// A row of the table of limits: its number, whether it applies to the request, the most permits in
+// an hour, and the list on which they stand.
 pub struct Row {
     pub number: u32,
     pub applies: bool,
@@ -115,8 +117,8 @@ pub fn limit(s: &[u32], q: u32, i: usize) -> Row
     }
 }
 
-// From t on, the seconds until the limit of a row would permit by itself; 0 where it does not block. It blocks where it applies, is not 0,
-// and as many permits of its list are in the hour.
+// From t on, the seconds until the limit of a row would permit by itself; 0 where it does not
+// block. It blocks where it applies, is not 0, and as many permits of its list are in the hour.
 pub fn blocked_for(s: &[u32], row: Row, t: u32) -> u32
     requires { ⌜ Listed (now s) (row .list) ⌝ }
     requires { ⌜ ascending 0 t (listOf (now s) (row .list)) ≡ true ⌝ }

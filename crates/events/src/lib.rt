@@ -1,5 +1,6 @@
-// Every timed call, by what happens: a request, an outcome of a service, service 2 dropped, or nothing but the clock. `happen` is the call, on
-// any buffer; `happen_in` is the same on a buffer that is known to be good.
+// Every timed call, by what happens: a request, an outcome of a service, service 2 dropped, or
+// nothing but the clock. `happen` is the call, on any buffer; `happen_in` is the same on a buffer
+// that is known to be good.
 use rules::Answer;
 use rules::Event;
 ghost use mathlib.Core.Path.{_≡_};

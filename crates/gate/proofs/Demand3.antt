@@ -1,5 +1,6 @@
--- Demand 3 on the buffer: from any accepted opening, and from any good buffer, whatever is done with the buffer after it, openings and refused calls among it, the
--- next call is answered as the rules answer over the record since the last accepted opening. Assumes nothing.
+-- Demand 3 on the buffer: from any accepted opening, and from any good buffer, whatever is done
+-- with the buffer after it, openings and refused calls among it, the next call is answered as the
+-- rules answer over the record since the last accepted opening. Assumes nothing.
 use mathlib.Core.Path.{_≡_, refl, sym, ap, _∙_}
 use mathlib.Core.Bool.{Bool, true, false, cond, _&&_, false≢true}
 use mathlib.Core.List.{List, [], _∷_, _++_}

@@ -38,7 +38,8 @@ pub data Run : List ℕ → List Doing → List Answer → List ℕ → Type 0 w
 unfoldable pub accepts : Order → Bool
 accepts o = settings o && files o && leb (o .time) highestTime
 
--- since the last accepted opening: what it was given, and the calls after it, the oldest first; a line whose room is under 16 bytes is not read
+-- since the last accepted opening, or since the first start where there was none: that start, and
+-- the calls after it, the oldest first; a line whose room is under 16 bytes is not read
 pub record Since : Type 0 where
   pub given : State
   pub before : List Call

@@ -1,4 +1,5 @@
--- A buffer is judged by its counts first and the other lines after them, in groups: that is the table's list of lines. Assumes nothing.
+-- A buffer is judged by its counts first and the other lines after them, in groups: that is the
+-- table's list of lines. Assumes nothing.
 use mathlib.Core.Path.{_≡_, refl, sym}
 use mathlib.Core.Bool.{Bool, true, false, _&&_, and-false}
 use mathlib.Core.List.{List}

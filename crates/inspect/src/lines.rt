@@ -1,4 +1,5 @@
-// The lines of the table, as the code tests them. The numbers of what is used come first: without them no list can be cut.
+// The lines of the table, as the code tests them. The numbers of what is used come first: without
+// them no list can be cut.
 use crate::scan::capped;
 use crate::scan::rising;
 use buffer::fields::imsi;

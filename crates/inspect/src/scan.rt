@@ -1,4 +1,5 @@
-// Scans of a whole slice. They look at every number and keep a flag: four to five times faster than leaving at the first bad one.
+// Scans of a whole slice. They look at every number and keep a flag: four to five times faster than
+// leaving at the first bad one.
 ghost use mathlib.Core.Path.{_≡_};
 ghost use Rattle.rules.specs.Tables.{ascending};
 ghost use Rattle.buffer.specs.Good.{atMost};
@@ -16,7 +17,8 @@ pub fn capped(p: &[u32], hi: u32) -> bool
     ok
 }
 
-// None is below the one before it, the first not below lo, and none is above hi: of numbers that rise, where the last is not.
+// None is below the one before it, the first not below lo, and none is above hi: of numbers that
+// rise, where the last is not.
 pub fn rising(p: &[u32], lo: u32, hi: u32) -> bool
     ensures { λ r. ⌜ r ≡ ascending lo hi (now (p .entry)) ⌝ }
 {

@@ -1,5 +1,5 @@
-// What became of a request, on a buffer that is known to be good: granted, rejected with a cause, or silent, when no answer came; and service 2
-// dropped.
+// What became of a request, on a buffer that is known to be good: granted, rejected with a cause,
+// or silent, when no answer came; and service 2 dropped.
 use buffer::fields;
 use rules::Answer;
 use rules::Outcome;
@@ -30,7 +30,8 @@ fn asked(s: &[u32], service: u32) -> bool
     fields::standing(s, service as usize) == 1
 }
 
-// The number of the first check that an outcome of a service fails, 0 if none; range says whether the call's numbers are in range.
+// The number of the first check that an outcome of a service fails, 0 if none; range says whether
+// the call's numbers are in range.
 fn checks(s: &[u32], t: u32, range: bool, service: u32) -> u32
     requires { ⌜ length (now s) ≡ SIZE ⌝ }
     ensures { λ r. ⌜ r ≡ checked (factsOf (now (s .entry))) t range service ⌝ }

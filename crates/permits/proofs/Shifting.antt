@@ -1,4 +1,5 @@
--- The laws of one list's places: what a shift leaves, and what `appended` is with room and without. Assumes nothing.
+-- The laws of one list's places: what a shift leaves, and what `appended` is with room and without.
+-- Assumes nothing.
 use mathlib.Core.Path.{_≡_, refl, sym, ap, _∙_, subst}
 use mathlib.Core.List.{List, [], _∷_, _++_, append-nil}
 use Prim.Native.Nat.{ℕ, zero, suc, _+_, _-_, _≤_, _<_, min}

@@ -1,4 +1,5 @@
-// Requests, on a buffer that is known to be good: decided by reading alone, then carried out by writing.
+// Requests, on a buffer that is known to be good: decided by reading alone, then carried out by
+// writing.
 use buffer::fields;
 use buffer::lists;
 use rules::Answer;

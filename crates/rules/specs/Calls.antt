@@ -1,17 +1,21 @@
--- What the gate is opened with, what it is asked and what it answers, and a line of the record. Times are seconds. Assumes nothing.
+-- What the gate is opened with, what it is asked and what it answers, and a line of the record.
+-- Times are seconds. Assumes nothing.
 use Prim.Native.Nat.{ℕ}
 use mathlib.Core.List.{List}
 use Rattle.rules.specs.declared.Answer.{Answer}
--- what became of a request: granted, no answer, or rejected with a cause and whether a second network exists, 1 where one does
+-- what became of a request: granted, no answer, or rejected with a cause and whether a second
+-- network exists, 1 where one does
 pub use Rattle.rules.specs.declared.Outcome.{Outcome}
 pub use Rattle.rules.specs.declared.Outcome.the-variants.{Granted as granted, Silent as silent, Rejected as rejected}
--- what happens at a time: request q, an outcome of service s, service 2 dropped, or nothing but the clock
+-- what happens at a time: request q, an outcome of service s, service 2 dropped, or nothing but the
+-- clock
 pub use Rattle.rules.specs.declared.Event.{Event}
 pub use Rattle.rules.specs.declared.Event.the-variants.{Ask as ask, Outcome as outcome, Dropped as dropped, Tick as tick}
 
 -- ---- Opening
 
--- what opening settles for good: its time, the IMSI, RPM, the card's parameters, the house limits, the card's leak rates
+-- what opening settles for good: its time, the IMSI, RPM, the card's parameters, the house limits,
+-- the card's leak rates
 pub record Opening : Type 0 where
   pub opened : ℕ
   pub imsi : ℕ

@@ -1,5 +1,6 @@
--- What the record tells. The record is the list of the accepted calls since its start, each with its answer, the newest first; each thing that
--- it tells is read straight off it, by itself, and before any call off the start: a new buffer, or what a good one holds. Assumes nothing.
+-- What the record tells. The record is the list of the accepted calls since its start, each with
+-- its answer, the newest first; each thing that it tells is read straight off it, by itself, and
+-- before any call off the start: a new buffer, or what a good one holds. Assumes nothing.
 use Prim.Native.Nat.{ℕ, zero, suc, _+_, _-_, _*_, _%_, min}
 use mathlib.Core.Bool.{Bool, false, cond, _&&_}
 use mathlib.Core.List.{List, [], _∷_, _++_}
@@ -20,7 +21,8 @@ unfoldable pub lastTime : State → List Entry → ℕ
 lastTime g [] = g .facts .last
 lastTime g (x ∷ past) = timeOf (x .call) (lastTime g past)
 
--- ---- NFM, Start Timer and intervals: as the newest AT line that names them has them, and before any as the start has them
+-- ---- NFM, Start Timer and intervals: as the newest AT line that names them has them, and before
+-- any as the start has them
 
 abbrev pub nfmAfter : Call → ℕ → ℕ
 nfmAfter (timed t e) before = before
@@ -59,7 +61,8 @@ unfoldable pub intervalsNow : State → List Entry → List ℕ
 intervalsNow g [] = g .facts .mode .intervals
 intervalsNow g (x ∷ past) = intervalsAfter (x .call) (intervalsNow g past)
 
--- ---- The permits of list k, oldest first: the start's, and the times of the requests that go there and were answered 0
+-- ---- The permits of list k, oldest first: the start's, and the times of the requests that go
+-- there and were answered 0
 
 abbrev pub permitIn : Kind → Call → ℕ → List ℕ
 permitIn k (timed t (ask q)) n = cond (eqb n 0 && goes q k) (t ∷ []) []
@@ -107,7 +110,8 @@ inARow g s (x ∷ past) = cond (clears s (x .call)) 0 (cond (backsOff s (x .call
 unfoldable pub failures : State → ℕ → List Entry → ℕ
 failures g s past = min (inARow g s past) 255
 
--- the time of its newest back-off plus the wait at so many failures; 0 once it is cleared; before any the start's
+-- the time of its newest back-off plus the wait at so many failures; 0 once it is cleared; before
+-- any the start's
 unfoldable pub backOffEnd : State → ℕ → List Entry → ℕ
 backOffEnd g s [] = getD (g .facts .services .ends) s 0
 backOffEnd g s (x ∷ past) =
@@ -152,11 +156,13 @@ mood g (x ∷ past) = moodAfter (x .call) (mood g past)
 
 -- ---- The card's counters
 
--- p is a leak point: the opening time plus a positive multiple of rate x 3,600 s; a rate of zero has none
+-- p is a leak point: the opening time plus a positive multiple of rate x 3,600 s; a rate of zero
+-- has none
 unfoldable pub leakPoint : ℕ → ℕ → ℕ → Bool
 leakPoint opened rate p = ltb 0 rate && (ltb opened p && eqb ((p - opened) % (rate * 3600)) 0)
 
--- what is left of a counter n seconds after the old time: each leak point on the way takes one, never below 0
+-- what is left of a counter n seconds after the old time: each leak point on the way takes one,
+-- never below 0
 unfoldable pub leaked : (opened rate old n counter : ℕ) → ℕ
 leaked opened rate old zero counter = counter
 leaked opened rate old (suc n) counter =
@@ -171,7 +177,8 @@ blocksOn k (timed t dropped) n = false
 blocksOn k (timed t tick) n = false
 blocksOn k (typed l) n = false
 
--- counter k: the start's; a call leaks from the old time to its own, and then its own block adds one, to 255 at most
+-- counter k: the start's; a call leaks from the old time to its own, and then its own block adds
+-- one, to 255 at most
 unfoldable pub counter : State → Counter → List Entry → ℕ
 counter g k [] = ofSix (g .facts .counters) k
 counter g k (x ∷ past) =

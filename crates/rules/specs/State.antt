@@ -1,4 +1,5 @@
--- What is known at a time: the settings of the opening and what the calls since have made of the rest. Assumes nothing.
+-- What is known at a time: the settings of the opening and what the calls since have made of the
+-- rest. Assumes nothing.
 use Prim.Native.Nat.{ℕ}
 use mathlib.Core.List.{List, [], _∷_}
 use Rattle.rules.specs.Calls.{Opening}
@@ -12,7 +13,8 @@ pub record Mode : Type 0 where
   pub start : ℕ
   pub intervals : List ℕ
 
--- the four services: failures in a row, back-off ends, standing (0 idle, 1 asked, 2 up); the mood of service 2
+-- the four services: failures in a row, back-off ends, standing (0 idle, 1 asked, 2 up); the mood
+-- of service 2
 pub record Services : Type 0 where
   pub failures : List ℕ
   pub ends : List ℕ
@@ -56,7 +58,8 @@ withBackoffs v l e = record { failures = l; ends = e; standing = v .standing; mo
 abbrev pub idle : List ℕ
 idle = 0 ∷ 0 ∷ 0 ∷ 0 ∷ []
 
--- a new buffer is idle and clear, its last time the opening time, failures and ends 0, lists empty; Start Timer is 0
+-- a new buffer is idle and clear, its last time the opening time, failures and ends 0, lists empty;
+-- Start Timer is 0
 unfoldable pub fresh : Opening → (nfm : ℕ) → (intervals counters : List ℕ) → State
 fresh o n l c = record {
   facts = record {

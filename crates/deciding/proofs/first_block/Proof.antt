@@ -1,4 +1,5 @@
--- `deciding::first_block` meets its contract: row after row, the first that blocks from there on is the first of all. Assumes nothing.
+-- `deciding::first_block` meets its contract: row after row, the first that blocks from there on is
+-- the first of all. Assumes nothing.
 use mathlib.Core.Path.{_≡_, refl, sym, _∙_}
 use Prim.Native.Nat.{_-_, _≤_}
 use lib.ListN.{drop}

@@ -2,7 +2,6 @@
 use mathlib.Core.Path.{_∙_}
 use native.Mathlib.Omega.{arith}
 use Rattle.inspect.proofs.Judged.{wrong-length, wrong-version, right-head}
-use borrow.Author.Needs.{needs}
 use Rattle.inspect.proofs.is_good_as.Statement.{statement}
 use Rattle.inspect.proofs.is_good_as.Tie as tie
 

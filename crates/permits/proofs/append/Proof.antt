@@ -1,5 +1,5 @@
--- `permits::append` meets its contract. With no room the loop's invariant is that the elements from 1 to i are one place down.
--- Assumes nothing.
+-- `permits::append` meets its contract. With no room the loop's invariant is that the elements from
+-- 1 to i are one place down. Assumes nothing.
 use mathlib.Core.Path.{_≡_, refl, sym, _∙_}
 use Prim.Native.Nat.{_≤_, _-_}
 use borrow.Author.Needs.{needs}

@@ -1,4 +1,5 @@
--- `permits::full_for` meets its contract: it looks at one time of the list, which by `one-time` tells enough. Assumes nothing.
+-- `permits::full_for` meets its contract: it looks at one time of the list, which by `one-time`
+-- tells enough. Assumes nothing.
 use mathlib.Core.Path.{_≡_, refl, sym, ap, _∙_}
 use mathlib.Core.Bool.{Bool, true, false, cond, _&&_}
 use mathlib.Core.List.{List}

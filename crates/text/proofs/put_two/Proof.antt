@@ -5,7 +5,6 @@ use lib.ListN.{length, length-set}
 use lib.Seq.{length-sets}
 use Rattle.text.specs.Printed.{printNum}
 use Rattle.text.proofs.Putting.{ten-digits, length-two, put-two}
-use borrow.Author.Needs.{needs}
 use Rattle.text.proofs.put_two.Statement.{statement}
 use Rattle.text.proofs.put_two.Tie as tie
 

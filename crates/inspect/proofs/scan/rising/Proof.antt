@@ -1,4 +1,5 @@
--- `inspect::scan::rising` meets its contract: the flag and what is left, from the last number on, decide. Assumes nothing.
+-- `inspect::scan::rising` meets its contract: the flag and what is left, from the last number on,
+-- decide. Assumes nothing.
 use mathlib.Core.Path.{_≡_, refl}
 use mathlib.Core.Bool.{_&&_}
 use Prim.Native.Nat.{_≤_, _-_}
