@@ -11,7 +11,8 @@ use lib.Seq.{take-suc-set, drop-set-lt, drop-drop, getD-drop, take-nil, slice, s
 use lib.Dec.{eqb}
 use borrow.Author.Tests.{eq-eqb, ne-eqb, le-leb}
 use Rattle.buffer.specs.Segments.{paste}
-use Rattle.lines.specs.Trace.{saidBy, longest, ended}
+use Rattle.lines.specs.Trace.{saidBy, longest}
+use Rattle.rows.specs.Rows.{ended}
 use Rattle.lines.proofs.Doing.{said-long}
 use Rattle.lines.specs.Line.{leftBy, printOf, roomFor, LineSays}
 use Rattle.answering.specs.declared.Left.{Left}

@@ -4,7 +4,8 @@ use mathlib.Core.Bool.{Bool, false, cond, not, _&&_}
 use mathlib.Core.List.{List, [], _∷_, _++_}
 use Prim.Native.Nat.{ℕ}
 use lib.Dec.{eqb}
-use Rattle.lines.specs.Trace.{saidBy, ended}
+use Rattle.lines.specs.Trace.{saidBy}
+use Rattle.rows.specs.Rows.{ended}
 use Rattle.lines.specs.Line.{leftBy, printOf, printedWrong}
 
 -- a line that has ended; `skip` says that it is too long, and was passed over

@@ -1,27 +1,26 @@
 -- What a line does to a good buffer, and what the call says in each of its cases. Assumes nothing.
 use mathlib.Core.Path.{_≡_, refl, sym, ap, _∙_, subst}
-use mathlib.Core.Bool.{Bool, true, false, cond, and-false}
+use mathlib.Core.Bool.{Bool, true, false, and-false}
 use mathlib.Core.List.{List, _++_}
 use mathlib.Core.Logic.{_≢_}
-use Prim.Native.Nat.{ℕ, suc, _+_, _≤_, _<_}
+use Prim.Native.Nat.{ℕ, suc, _+_, _≤_}
 use native.Mathlib.Omega.{arith}
-use lib.Dec.{lit<, leb, eqb}
+use lib.Dec.{leb}
 use lib.ListN.{length, getD, set}
 use lib.Seq.{sets, length-sets}
 use Rattle.rules.specs.declared.Answer.{Answer}
 use Rattle.rules.specs.Calls.{Line, query, nfm, nfm-start, intervals, bad, typed, answer}
-use Rattle.rules.specs.Rules.{ruling, refusal, refused, verdict, changed, obeyed, switched, adds}
-use Rattle.rules.specs.State.{Facts, withMode, withServices, withBackoffs, idle}
+use Rattle.rules.specs.Rules.{ruling, refusal, refused, verdict, changed, obeyed, adds}
+use Rattle.rules.specs.State.{Facts}
 use Rattle.buffer.specs.Places.{NFM, START}
 use Rattle.buffer.specs.Segments.{pad, paste}
 use Rattle.buffer.specs.Layout.{rows, factsOf, view}
 use Rattle.buffer.specs.Good.{good}
-use Rattle.buffer.proofs.Laid.{Laid, withNumbers, all-four, laid-good, laid-as, laid-nfm, laid-start, laid-failures, laid-end, laid-intervals}
+use Rattle.buffer.proofs.Laid.{Laid, laid-good, laid-as, laid-intervals}
 use Rattle.buffer.proofs.Laying.{length-pad}
 use Rattle.buffer.proofs.Goodness.{valid-view}
 use Rattle.buffer.proofs.Sane.{valid-facts}
 use Rattle.opening.proofs.Copying.{stored as stores}
-use Rattle.backoff.specs.Backoffs.{stored, clear}
 use Rattle.clock.specs.Call.{callAnswer, Says}
 use Rattle.clock.proofs.Saying.{moves, says-good, says-refused}
 use Rattle.text.proofs.Choice.{absurd-bool}
@@ -29,36 +28,9 @@ use Rattle.at.specs.Lines.{readLine}
 use Rattle.at.specs.Order.{ten, listOf}
 use Rattle.at.specs.Print.{Valid}
 use Rattle.at.proofs.RoundTrip.{from-scheduled, accepted, read-accepted}
-use Rattle.command.specs.Command.{okay, shown, reply, calmed, turned, timedBy, heard, CommandSays}
-
-abbrev quiet : Facts → Facts
-quiet f = withServices f (withBackoffs (f .services) idle idle)
-
--- service i without failure and end
-laid-calm : {b : List ℕ} {f : Facts} {rs : List (List ℕ)} → Laid b f rs → (i : ℕ) → i < 4
-    → Laid (stored b i clear) (withNumbers f (set (f .services .failures) i 0) (set (f .services .ends) i 0) (f .services .standing) (f .services .mood)) rs
-laid-calm l i h = laid-end (laid-failures l i 0 h) i 0 h
-
--- all four
-laid-calmed : {b : List ℕ} {f : Facts} {rs : List (List ℕ)} → Laid b f rs → Laid (calmed b) (quiet f) rs
-laid-calmed {b} {f} {rs} l =
-    subst (λ (x : List ℕ). Laid (calmed b) (withNumbers f x idle (f .services .standing) (f .services .mood)) rs) (all-four (f .services .failures) (l .shaped .failures))
-    (subst (λ (x : List ℕ). Laid (calmed b) (withNumbers f (set (set (set (set (f .services .failures) 0 0) 1 0) 2 0) 3 0) x (f .services .standing) (f .services .mood)) rs) (all-four (f .services .ends) (l .shaped .ends))
-    (laid-calm (laid-calm (laid-calm (laid-calm l 0 (lit< tt)) 1 (lit< tt)) 2 (lit< tt)) 3 (lit< tt)))
-
-laid-turned : {b : List ℕ} {f : Facts} {rs : List (List ℕ)} → Laid b f rs → (a s : ℕ) → Laid (turned b a s) (switched a s f) rs
-unfolding turned switched
-laid-turned {b} {f} {rs} l a s = go (eqb a 0)
-  where
-    m : Laid (set (set b NFM a) START s) (withMode f (record { nfm = a; start = s; intervals = f .mode .intervals })) rs
-    m = laid-start (laid-nfm l a) s
-
-    go : (x : Bool) → Laid (cond x (calmed (set (set b NFM a) START s)) (set (set b NFM a) START s))
-        (withServices (withMode f (record { nfm = a; start = s; intervals = f .mode .intervals }))
-        (withBackoffs (f .services) (cond x idle (f .services .failures)) (cond x idle (f .services .ends))))
-        rs
-    go true = laid-calmed m
-    go false = m
+use Rattle.settings.specs.Settings.{turned, timedBy}
+use Rattle.settings.proofs.Settled.{laid-turned}
+use Rattle.command.specs.Command.{okay, shown, reply, heard, CommandSays}
 
 -- a line that no check refuses, once it is done
 module _ (b : List ℕ) (g : good b ≡ true) (l : Line) (h : refusal (factsOf b) (typed l) ≡ 0) where

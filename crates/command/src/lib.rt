@@ -4,60 +4,16 @@ use buffer::fields;
 use rules::Answer;
 ghost use mathlib.Core.Path.{_≡_};
 ghost use mathlib.Core.Bool.{true};
-ghost use Prim.Native.Nat.{_+_, _<_, _≤_};
-ghost use lib.ListN.{length, take};
+ghost use Prim.Native.Nat.{_+_, _≤_};
+ghost use lib.ListN.{length};
 ghost use Rattle.rules.specs.Calls.{typed, query};
 ghost use Rattle.buffer.specs.Places.{SIZE};
 ghost use Rattle.buffer.specs.Segments.{paste};
 ghost use Rattle.buffer.specs.Layout.{factsOf};
 ghost use Rattle.buffer.specs.Good.{good};
-ghost use Rattle.backoff.specs.Backoffs.{stored, clear};
 ghost use Rattle.clock.specs.Call.{Says};
 ghost use Rattle.at.specs.Lines.{readLine};
-ghost use Rattle.command.specs.Command.{calmed, turned, timedBy, okay as okayBytes, shown, reply, CommandSays};
-
-// Service i has no failure and no end.
-fn calm(s: &mut [u32], i: usize)
-    requires { ⌜ length (now s) ≡ SIZE ⌝ }
-    requires { ⌜ i < 4 ⌝ }
-    ensures { λ _. ⌜ now (s .exit) ≡ stored (now (s .entry)) i clear ⌝ }
-{
-    let b = backoff::load(s, i);
-    backoff::store(s, i, b.cleared());
-}
-
-// None of the four has.
-fn calm_all(s: &mut [u32])
-    requires { ⌜ length (now s) ≡ SIZE ⌝ }
-    ensures { λ _. ⌜ now (s .exit) ≡ calmed (now (s .entry)) ⌝ }
-{
-    calm(s, 0);
-    calm(s, 1);
-    calm(s, 2);
-    calm(s, 3);
-}
-
-// NFM becomes a and Start Timer start; with a 0, failures and ends become 0.
-fn turn(s: &mut [u32], a: u32, start: u32)
-    requires { ⌜ length (now s) ≡ SIZE ⌝ }
-    ensures { λ _. ⌜ now (s .exit) ≡ turned (now (s .entry)) a start ⌝ }
-{
-    fields::set_nfm(s, a);
-    fields::set_start(s, start);
-    if a == 0 {
-        calm_all(s);
-    }
-}
-
-// The first n of the list become the intervals.
-fn schedule(s: &mut [u32], list: &[u32], n: usize)
-    requires { ⌜ length (now s) ≡ SIZE ⌝ }
-    requires { ⌜ (n ≤ 10) × (length (now list) ≡ 10) ⌝ }
-    ensures { λ _. ⌜ now (s .exit) ≡ timedBy (now (s .entry)) (take n (now (list .entry))) ⌝ }
-{
-    fields::set_count(s, n as u32);
-    opening::intervals(s, &list[..n]);
-}
+ghost use Rattle.command.specs.Command.{okay as okayBytes, shown, reply, CommandSays};
 
 // OK CR LF, from a place on.
 fn okay(out: &mut [u8], i: usize)
@@ -119,7 +75,7 @@ pub fn command_in(s: &mut [u32], line: &[u8], out: &mut [u8]) -> Answer
         }
         Kind::Nfm(a) => {
             let start = fields::start(s);
-            turn(s, a, start);
+            settings::turn(s, a, start);
             okay(out, 0);
             Answer {
                 number: 0,
@@ -127,7 +83,7 @@ pub fn command_in(s: &mut [u32], line: &[u8], out: &mut [u8]) -> Answer
             }
         }
         Kind::NfmStart(a, start) => {
-            turn(s, a, start);
+            settings::turn(s, a, start);
             okay(out, 0);
             Answer {
                 number: 0,
@@ -135,7 +91,7 @@ pub fn command_in(s: &mut [u32], line: &[u8], out: &mut [u8]) -> Answer
             }
         }
         Kind::Intervals => {
-            schedule(s, &order.list, order.count);
+            settings::schedule(s, &order.list, order.count);
             okay(out, 0);
             Answer {
                 number: 0,

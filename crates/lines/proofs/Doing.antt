@@ -18,16 +18,19 @@ use Rattle.opening.specs.Open.{Order, OpenSays}
 use Rattle.at.specs.Lines.{readLine}
 use Rattle.lines.specs.declared.Reply.{Reply}
 use Rattle.lines.specs.declared.Reply.the-variants as R
-use Rattle.lines.specs.declared.Span.{Span}
+use Rattle.rows.specs.declared.Span.{Span}
 use Rattle.lines.specs.declared.House.the-variants as H
-use Rattle.lines.specs.Trace.{Said, opens, calls, wrong, fields, ended, begins, space, comma, cr, highest, highestByte, longest, howMany, eventOf, timedLine, typedLine, Ending, ending, no-ending, endingOf, opensBy, openLine, letterO, letterA, byLetter, readTrace, saidBy, field, highestImsi, ifNumber, ifNumbers, ifExactly}
-use Rattle.lines.specs.Held.{rowOf, endingBy}
+use Rattle.lines.specs.Trace.{Said, opens, calls, wrong, comma, cr, highest, highestByte, longest, howMany, eventOf, timedLine, typedLine, Ending, ending, no-ending, endingOf, opensBy, openLine, letterO, letterA, byLetter, readTrace, saidBy, highestImsi}
+use Rattle.rows.specs.Rows.{fields, ended, begins, space, field, ifNumber, ifNumbers, ifExactly}
+use Rattle.lines.specs.Held.{endingBy}
+use Rattle.rows.specs.Rows.{rowOf}
 use Rattle.lines.specs.Line.{Done, printed, printOf, roomFor, LineSays}
-use Rattle.lines.proofs.Reading.{ended-end, ended-not}
+use Rattle.rows.proofs.Reading.{ended-end, ended-not}
 use Rattle.text.specs.Number.{partOf}
 use Rattle.text.specs.declared.Num.{Num}
 use Rattle.text.specs.declared.Num.the-variants as N
-use Rattle.lines.proofs.Rows.{number-none, number-some, numbers-none, numbers-some, exactly-none, exactly-not, exactly-so, filled}
+use Rattle.rows.proofs.Rows.{number-none, number-some, numbers-none, numbers-some, exactly-none, exactly-not, exactly-so}
+use Rattle.lines.proofs.Filing.{filled}
 
 -- ---- Each kind of answer
 

@@ -1,6 +1,5 @@
-pub mod Reading
 pub mod Letters
-pub mod Rows
+pub mod Filing
 pub mod Doing
 pub mod Staying
 pub mod OneResult

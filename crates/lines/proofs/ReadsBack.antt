@@ -6,7 +6,8 @@ use Rattle.rules.specs.declared.Answer.{Answer}
 use Rattle.text.specs.Number.{got, num, digitOf}
 use Rattle.text.specs.Printed.{printNum}
 use Rattle.text.proofs.Printed.{below, num-print}
-use Rattle.lines.specs.Trace.{space, highest, begins, ended, field}
+use Rattle.lines.specs.Trace.{highest}
+use Rattle.rows.specs.Rows.{space, begins, ended, field}
 use Rattle.lines.specs.declared.Reply.{Reply}
 use Rattle.lines.specs.declared.Reply.the-variants as R
 use Rattle.lines.specs.Line.{printed, printedTwo, printedWrong, Fits, readAnswer, lastOf}

@@ -16,10 +16,11 @@ use Rattle.clock.proofs.Saying.{good-after}
 use Rattle.opening.specs.Open.{Order, Typed, openNumber, openAfter}
 use Rattle.opening.proofs.Opened.{opened-valid}
 use Rattle.text.proofs.Choice.{cond-by}
-use Rattle.lines.specs.Trace.{Said, opens, calls, wrong, Row, row, no-row, fields, ended, space, comma, highest, highestByte, highestImsi, field, ifNumber, ifNumbers, ifExactly, Ending, ending, no-ending, endingOf, opensBy, openLine, typedLine, timedLine, letterO, letterA, byLetter, readTrace, saidBy, longest, begins, howMany}
-use Rattle.lines.specs.Held.{UpTo}
+use Rattle.lines.specs.Trace.{Said, opens, calls, wrong, comma, highest, highestByte, highestImsi, Ending, ending, no-ending, endingOf, opensBy, openLine, typedLine, timedLine, letterO, letterA, byLetter, readTrace, saidBy, longest, howMany}
+use Rattle.rows.specs.Rows.{Row, row, no-row, fields, ended, space, field, ifNumber, ifNumbers, ifExactly, begins}
+use Rattle.rows.specs.Rows.{UpTo}
 use Rattle.lines.specs.Line.{leftBy, roomFor, LineSays}
-use Rattle.lines.proofs.Rows.{RowUpTo, fields-up-to}
+use Rattle.rows.proofs.Rows.{RowUpTo, fields-up-to}
 
 -- ---- Bytes
 

@@ -12,7 +12,8 @@ use Rattle.opening.specs.Open.{openAnswer, openAfter}
 use Rattle.clock.specs.Call.{callAnswer, callAfter}
 use Rattle.text.specs.Number.{num}
 use Rattle.text.specs.Printed.{printTwo}
-use Rattle.lines.specs.Trace.{Said, opens, calls, wrong, saidBy, highest, begins, ended, field, ifNumber}
+use Rattle.lines.specs.Trace.{Said, opens, calls, wrong, saidBy, highest}
+use Rattle.rows.specs.Rows.{begins, ended, field, ifNumber}
 use Rattle.lines.specs.declared.Reply.{Reply}
 use Rattle.lines.specs.declared.Reply.the-variants as R
 

@@ -1,7 +1,7 @@
 -- Document 01's trace: what a line says. A line stands without its LF. Fields are parted by one space, listed numbers by commas. Assumes nothing.
-use mathlib.Core.Bool.{Bool, true, false, cond}
+use mathlib.Core.Bool.{cond}
 use mathlib.Core.List.{List, [], _∷_, _++_}
-use Prim.Native.Nat.{ℕ, zero, suc}
+use Prim.Native.Nat.{ℕ}
 use lib.Dec.{eqb, leb}
 use lib.ListN.{length, getD, drop, replicate}
 use Rattle.rules.specs.Calls.{Call, timed, typed}
@@ -11,7 +11,7 @@ use Rattle.rules.specs.declared.Outcome.the-variants.{Granted as granted, Silen
 use Rattle.buffer.specs.Segments.{pad}
 use Rattle.card.specs.Card.{rtc10}
 use Rattle.opening.specs.Open.{Order, order}
-use Rattle.text.specs.Number.{Part, got, none, num}
+use Rattle.rows.specs.Rows.{space, begins, ended, field, fields, ifNumber, ifNumbers, ifExactly}
 use Rattle.at.specs.Lines.{readLine}
 
 -- ---- Bytes and ranges
@@ -40,9 +40,6 @@ letterT = 84
 abbrev pub letterA : ℕ
 letterA = 65
 
-abbrev pub space : ℕ
-space = 32
-
 abbrev pub comma : ℕ
 comma = 44
 
@@ -63,53 +60,6 @@ highestByte = 255
 -- the longest line
 abbrev pub longest : ℕ
 longest = 256
-
--- ---- Fields
-
--- the byte x stands first
-unfoldable pub begins : ℕ → List ℕ → Bool
-begins x [] = false
-begins x (y ∷ l) = eqb y x
-
--- nothing is left
-unfoldable pub ended : List ℕ → Bool
-ended [] = true
-ended (x ∷ l) = false
-
--- a space and a number
-unfoldable pub field : (most : ℕ) → List ℕ → Part
-field most l = cond (begins space l) (num most (drop 1 l)) none
-
--- numbers and the bytes after them, or none
-pub data Row : Type 0 where
-  row : List ℕ → List ℕ → Row
-  no-row : Row
-
--- what follows a number of a row
-abbrev pub moreOf : ℕ → Part → List ℕ → (List ℕ → List ℕ → Row) → Row
-moreOf sep none done go = no-row
-moreOf sep (got v r) done go = cond (begins sep r) (go (drop 1 r) (done ++ (v ∷ []))) (row (done ++ (v ∷ [])) r)
-
--- numbers with the byte sep between them, after those done: all that stand there, at least one and at most k
-unfoldable pub numbers : (sep most k : ℕ) → List ℕ → List ℕ → Row
-numbers sep most zero l done = no-row
-numbers sep most (suc k) l done = moreOf sep (num most l) done (numbers sep most k)
-
--- a space and a row of numbers
-unfoldable pub fields : (sep most k : ℕ) → List ℕ → Row
-fields sep most k l = cond (begins space l) (numbers sep most k (drop 1 l) []) no-row
-
--- what follows a number, numbers, or k numbers exactly; z where they are not there
-abbrev pub ifNumber : {A : Type 0} → A → Part → (ℕ → List ℕ → A) → A
-ifNumber z none go = z
-ifNumber z (got v l) go = go v l
-
-abbrev pub ifNumbers : {A : Type 0} → A → Row → (List ℕ → List ℕ → A) → A
-ifNumbers z no-row go = z
-ifNumbers z (row n l) go = go n l
-
-abbrev pub ifExactly : {A : Type 0} → A → ℕ → Row → (List ℕ → List ℕ → A) → A
-ifExactly z k r go = ifNumbers z r (λ n l. cond (eqb (length n) k) (go n l) z)
 
 -- ---- Lines
 

@@ -14,9 +14,9 @@ ghost use Rattle.buffer.specs.Places.{SIZE};
 ghost use Rattle.buffer.specs.Segments.{paste};
 ghost use Rattle.buffer.specs.Good.{good};
 ghost use Rattle.clock.specs.Call.{Says};
-ghost use Rattle.text.specs.Number.{partOf, placeOf, valueOf};
-ghost use Rattle.lines.specs.Trace.{begins as beginsOf, field as fieldOf, numbers as numbersOf, fields as fieldsOf, howMany, eventOf, timedLine, typedLine, endingOf, opensBy, openLine, saidBy};
-ghost use Rattle.lines.specs.Held.{UpTo, rowOf, endingBy};
+ghost use Rattle.lines.specs.Trace.{howMany, eventOf, timedLine, typedLine, endingOf, opensBy, openLine, saidBy};
+ghost use Rattle.lines.specs.Held.{endingBy};
+ghost use Rattle.rows.specs.Rows.{UpTo};
 ghost use Rattle.lines.specs.Line.{Done, printedTwo, printedWrong, LineSays};
 
 // What a line is answered: two numbers, or ERR.
@@ -25,73 +25,10 @@ pub enum Reply {
     Wrong,
 }
 
-// A row of numbers that was read: how many, 0 for none, and the place after them.
-struct Span {
-    count: usize,
-    next: usize,
-}
-
 // A1 and S1.
 enum House {
     Limits(u32, u32),
     Nothing,
-}
-
-// The byte at a place is x.
-fn begins(line: &[u8], at: usize, x: u8) -> bool
-    ensures { λ r. ⌜ r ≡ beginsOf x (drop at (now (line .entry))) ⌝ }
-{
-    if line.len() <= at {
-        return false;
-    }
-    line[at] == x
-}
-
-// A space and a number up to `most`, from a place on, and the place after it.
-fn field(line: &[u8], at: usize, most: u64) -> Num
-    ensures { λ r. ⌜ (partOf (now (line .entry)) r ≡ fieldOf most (drop at (now (line .entry)))) × (placeOf r ≤ length (now (line .entry))) × (valueOf r ≤ most) ⌝ }
-{
-    if begins(line, at, b' ') {
-        return text::decimal(line, at + 1, most);
-    }
-    Num::Nothing
-}
-
-// Numbers from a place on with `sep` between them, to the front of `out`: all that stand there, none where there are more than it has room for.
-fn numbers(line: &[u8], at: usize, sep: u8, most: u64, out: &mut [u32]) -> Span
-    requires { ⌜ most ≤ 4294967295 ⌝ }
-    ensures { λ r. ⌜ (rowOf (now (line .entry)) r (now (out .exit)) ≡ numbersOf sep most (length (now (out .entry))) (drop at (now (line .entry))) []) × (r .count ≤ length (now (out .entry))) × (r .next ≤ length (now (line .entry))) ⌝ }
-{
-    let mut n: usize = 0;
-    let mut i = at;
-    while n < out.len() {
-        match text::decimal(line, i, most) {
-            Num::Nothing => {
-                return Span { count: 0, next: 0 };
-            }
-            Num::At(v, next) => {
-                out[n] = v as u32;
-                n += 1;
-                if begins(line, next, sep) {
-                    i = next + 1;
-                } else {
-                    return Span { count: n, next };
-                }
-            }
-        }
-    }
-    Span { count: 0, next: 0 }
-}
-
-// A space and numbers with `sep` between them.
-fn fields(line: &[u8], at: usize, sep: u8, most: u64, out: &mut [u32]) -> Span
-    requires { ⌜ most ≤ 4294967295 ⌝ }
-    ensures { λ r. ⌜ (rowOf (now (line .entry)) r (now (out .exit)) ≡ fieldsOf sep most (length (now (out .entry))) (drop at (now (line .entry)))) × (r .count ≤ length (now (out .entry))) × (r .next ≤ length (now (line .entry))) ⌝ }
-{
-    if begins(line, at, b' ') {
-        return numbers(line, at + 1, sep, most, out);
-    }
-    Span { count: 0, next: 0 }
 }
 
 // The bytes of a file, to its front.
@@ -113,17 +50,17 @@ fn ending(line: &[u8], at: usize, parameters: &mut [u8], rates: &mut [u8]) -> Ho
     ensures { λ r. ⌜ endingBy (now (parameters .exit)) (now (rates .exit)) r ≡ endingOf (drop at (now (line .entry))) ⌝ }
 {
     let mut p = [0u32; 6];
-    let first = fields(line, at, b',', 255, &mut p);
+    let first = rows::fields(line, at, b',', 255, &mut p);
     if first.count != 6 {
         return House::Nothing;
     }
     let mut q = [0u32; 3];
-    let second = fields(line, first.next, b',', 255, &mut q);
+    let second = rows::fields(line, first.next, b',', 255, &mut q);
     if second.count != 3 {
         return House::Nothing;
     }
     let mut h = [0u32; 2];
-    let last = fields(line, second.next, b' ', 4294967295, &mut h);
+    let last = rows::fields(line, second.next, b' ', 4294967295, &mut h);
     if last.count != 2 {
         return House::Nothing;
     }
@@ -177,14 +114,14 @@ fn open_with(
 fn open_line(s: &mut [u32], line: &[u8]) -> Reply
     ensures { λ r. ⌜ Done (now (s .entry)) (openLine (drop 1 (now (line .entry)))) r (now (s .exit)) ⌝ }
 {
-    let Num::At(time, after_time) = field(line, 1, 4294967295) else {
+    let Num::At(time, after_time) = rows::field(line, 1, 4294967295) else {
         return Reply::Wrong;
     };
-    let Num::At(imsi, after_imsi) = field(line, after_time, 18446744073709551615) else {
+    let Num::At(imsi, after_imsi) = rows::field(line, after_time, 18446744073709551615) else {
         return Reply::Wrong;
     };
     let mut intervals = [0u32; 128];
-    let read = fields(line, after_imsi, b',', 4294967295, &mut intervals);
+    let read = rows::fields(line, after_imsi, b',', 4294967295, &mut intervals);
     let count = read.count;
     if count == 0 {
         return Reply::Wrong;
@@ -256,7 +193,7 @@ fn timed_line(s: &mut [u32], line: &[u8], x: u8, ok: bool) -> Reply
     ensures { λ r. ⌜ Done (now (s .entry)) (timedLine x (drop 1 (now (line .entry)))) r (now (s .exit)) ⌝ }
 {
     let mut v = [0u32; 4];
-    let read = fields(line, 1, b' ', 4294967295, &mut v);
+    let read = rows::fields(line, 1, b' ', 4294967295, &mut v);
     let count = read.count;
     if count == 0 {
         return Reply::Wrong;
@@ -297,7 +234,7 @@ fn typed_line(s: &mut [u32], line: &[u8], ok: bool) -> Reply
     requires { ⌜ length (now line) ≤ 256 ⌝ }
     ensures { λ r. ⌜ Done (now (s .entry)) (typedLine (drop 1 (now (line .entry)))) r (now (s .exit)) ⌝ }
 {
-    if begins(line, 1, b' ') {
+    if rows::begins(line, 1, b' ') {
         if ok {
             let mut text = [0u8; 256];
             let n = closed(line, &mut text);

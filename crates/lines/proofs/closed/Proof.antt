@@ -1,5 +1,5 @@
 -- `lines::closed` meets its contract: the bytes are copied, and CR after them. Assumes nothing.
-use Rattle.lines.proofs.Reading.{closed-next, closed-end}
+use Rattle.lines.proofs.Filing.{closed-next, closed-end}
 use Prim.Native.Nat.{_≤_, _+_, _-_}
 use mathlib.Core.Path.{_≡_, refl}
 use lib.ListN.{length, take, drop, length-set}

@@ -1,5 +1,5 @@
 -- `lines::ending` meets its contract. Assumes nothing.
-use Rattle.lines.proofs.Rows.{full-up-to}
+use Rattle.rows.proofs.Rows.{full-up-to}
 use Rattle.lines.proofs.Doing.{no-parameters, no-rates, no-house, not-ended, ending-all}
 use Prim.Native.Nat.{_-_}
 use mathlib.Core.Path.{ap}

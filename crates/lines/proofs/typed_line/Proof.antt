@@ -1,7 +1,7 @@
 -- `lines::typed_line` meets its contract. Assumes nothing.
 use lib.Seq.{length-take-le}
 use Rattle.lines.proofs.Doing.{done-wrong, done-call, done-bad, typed-none, typed-some}
-use Rattle.lines.proofs.Reading.{begins-place}
+use Rattle.rows.proofs.Reading.{begins-place}
 use Rattle.buffer.proofs.Goodness.{good-shape}
 use Rattle.at.specs.Lines.{readLine}
 use Rattle.clock.specs.Call.{Says}

@@ -1,10 +1,10 @@
--- `lines::begins` meets its contract. Assumes nothing.
-use Rattle.lines.proofs.Reading.{begins-end, begins-at}
+-- `rows::begins` meets its contract. Assumes nothing.
+use Rattle.rows.proofs.Reading.{begins-end, begins-at}
 use Prim.Native.Nat.{_-_}
 use mathlib.Core.Path.{sym}
 use borrow.Author.Needs.{needs}
-use Rattle.lines.proofs.begins.Statement.{statement}
-use Rattle.lines.proofs.begins.Tie as tie
+use Rattle.rows.proofs.begins.Statement.{statement}
+use Rattle.rows.proofs.begins.Tie as tie
 
 returns : tie.Need-returns
 returns c = sym (begins-end (c .before .args .line .now) (c .before .args .at) (c .before .args .x) (c .if1 .taken))

@@ -1,6 +1,6 @@
--- `lines::numbers` meets its contract: what is left to read answers for the whole. Assumes nothing.
-use Rattle.lines.proofs.Reading.{numbers-full, numbers-none, numbers-last, numbers-more, take-more, some-row}
-use Rattle.lines.specs.Trace.{row, numbers}
+-- `rows::numbers` meets its contract: what is left to read answers for the whole. Assumes nothing.
+use Rattle.rows.proofs.Reading.{numbers-full, numbers-none, numbers-last, numbers-more, take-more, some-row}
+use Rattle.rows.specs.Rows.{row, numbers}
 use Rattle.text.specs.declared.Num.{Num}
 use Rattle.text.specs.Number.{num, got, partOf, placeOf, valueOf}
 use lib.Seq.{drop-drop}
@@ -12,8 +12,8 @@ use mathlib.Core.Path.{_≡_, refl, sym, ap, _∙_}
 use lib.ListN.{length, take, drop, set, length-set}
 use native.Mathlib.Omega.{arith}
 use borrow.Author.Needs.{needs}
-use Rattle.lines.proofs.numbers.Statement.{statement}
-use Rattle.lines.proofs.numbers.Tie as tie
+use Rattle.rows.proofs.numbers.Statement.{statement}
+use Rattle.rows.proofs.numbers.Tie as tie
 
 abbrev Inv-loop : tie.InvT-loop
 Inv-loop line at sep most out₀ n₀ i₀ out n i = (n ≤ length out) × ((length out ≡ length out₀) × ((k : ℕ) → k + n ≡ length out₀ → numbers sep most k (drop i line) (take n out) ≡ numbers sep most (length out₀) (drop at line) []))

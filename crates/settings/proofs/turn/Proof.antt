@@ -1,9 +1,9 @@
--- `command::turn` meets its contract. Assumes nothing.
+-- `settings::turn` meets its contract. Assumes nothing.
 use borrow.Author.Tests.{eq-eqb, ne-eqb}
-use Rattle.command.specs.Command.{turned}
+use Rattle.settings.specs.Settings.{turned}
 use borrow.Author.Needs.{needs}
-use Rattle.command.proofs.turn.Statement.{statement}
-use Rattle.command.proofs.turn.Tie as tie
+use Rattle.settings.proofs.turn.Statement.{statement}
+use Rattle.settings.proofs.turn.Tie as tie
 
 set-nfm-requires : tie.Need-set-nfm-requires
 set-nfm-requires c κs = search needs

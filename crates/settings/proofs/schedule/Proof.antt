@@ -1,10 +1,10 @@
--- `command::schedule` meets its contract. Assumes nothing.
+-- `settings::schedule` meets its contract. Assumes nothing.
 use mathlib.Core.Path.{sym}
 use native.Mathlib.Omega.{arith}
 use lib.Seq.{length-take-le}
 use borrow.Author.Needs.{needs}
-use Rattle.command.proofs.schedule.Statement.{statement}
-use Rattle.command.proofs.schedule.Tie as tie
+use Rattle.settings.proofs.schedule.Statement.{statement}
+use Rattle.settings.proofs.schedule.Tie as tie
 
 cast-set-count : tie.Need-cast-set-count
 cast-set-count c = search needs

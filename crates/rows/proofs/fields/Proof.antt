@@ -1,12 +1,12 @@
--- `lines::fields` meets its contract. Assumes nothing.
-use Rattle.lines.proofs.Reading.{begins-place, fields-some, fields-none}
+-- `rows::fields` meets its contract. Assumes nothing.
+use Rattle.rows.proofs.Reading.{begins-place, fields-some, fields-none}
 use Prim.Native.Nat.{_-_}
 use mathlib.Core.Path.{sym, _∙_}
 use lib.ListN.{length}
 use native.Mathlib.Omega.{arith}
 use borrow.Author.Needs.{needs}
-use Rattle.lines.proofs.fields.Statement.{statement}
-use Rattle.lines.proofs.fields.Tie as tie
+use Rattle.rows.proofs.fields.Statement.{statement}
+use Rattle.rows.proofs.fields.Tie as tie
 
 begins-requires : tie.Need-begins-requires
 begins-requires c κs = search needs

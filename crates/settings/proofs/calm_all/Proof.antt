@@ -1,8 +1,8 @@
--- `command::calm_all` meets its contract. Assumes nothing.
+-- `settings::calm_all` meets its contract. Assumes nothing.
 
 use borrow.Author.Needs.{needs}
-use Rattle.command.proofs.calm_all.Statement.{statement}
-use Rattle.command.proofs.calm_all.Tie as tie
+use Rattle.settings.proofs.calm_all.Statement.{statement}
+use Rattle.settings.proofs.calm_all.Tie as tie
 
 calm-requires : tie.Need-calm-requires
 calm-requires c κs = search needs

@@ -7,12 +7,12 @@ use native.Mathlib.Numerals.{add-one}
 use native.Mathlib.Omega.{arith}
 use lib.Dec.{eqb, ltb}
 use borrow.Author.Tests.{ltb-true, ltb-false, ne-eqb}
-use Rattle.lines.specs.Held.{rowOf}
-use lib.ListN.{length, getD, take, drop, set, drop-of-length-le, length-drop}
-use lib.Seq.{drop-cons, drop-drop, take-suc, take-suc-set, take-all, getD-drop}
+use Rattle.rows.specs.Rows.{rowOf}
+use lib.ListN.{length, getD, take, drop, set, drop-of-length-le}
+use lib.Seq.{drop-cons, drop-drop, take-suc-set}
 use Rattle.text.proofs.Choice.{cond-by, absurd-bool}
 use Rattle.text.specs.Number.{got, none, num}
-use Rattle.lines.specs.Trace.{space, begins, ended, field, row, no-row, numbers, fields}
+use Rattle.rows.specs.Rows.{space, begins, ended, field, row, no-row, numbers, fields}
 
 module _ (l : List ℕ) (i : ℕ) where
   pub begins-end : (x : ℕ) → length l ≤ i → begins x (drop i l) ≡ false
@@ -77,18 +77,6 @@ by-lt {P} m n f g = cond-by (λ (_ : ℕ). P) (ltb m n) {x = 0} {y = 0} (λ e. f
 -- a place where a byte stands is inside the line
 pub begins-place : (x : ℕ) (l : List ℕ) (i : ℕ) → begins x (drop i l) ≡ true → i < length l
 begins-place x l i e = by-lt i (length l) (λ h. h) (λ h. absurd-bool (sym (begins-end l i x h) ∙ e))
-
--- ---- The rest of a line, copied and closed
-
-module _ (line out : List ℕ) (i : ℕ) (h : i < length out) where
-  pub closed-next : i + 2 < length line → take i out ≡ take i (drop 2 line) → take (i + 1) (set out i (getD line (i + 2) 0)) ≡ take (i + 1) (drop 2 line)
-  closed-next p e =
-      let q : i < length (drop 2 line) = simp length-drop (omega arith) in
-      let m : 2 + i ≡ i + 2 = omega arith in
-      take-more out i (getD line (i + 2) 0) h ∙ rw (e, add-one, take-suc (drop 2 line) i 0 q, getD-drop 2 line i 0, m)
-
-  pub closed-end : length line ≤ i + 2 → take i out ≡ take i (drop 2 line) → take (i + 1) (set out i 13) ≡ drop 2 line ++ (13 ∷ [])
-  closed-end p e = take-more out i 13 h ∙ rw (e, take-all i (drop 2 line) (simp length-drop (omega arith)))
 
 -- ---- The code's form of a row
 

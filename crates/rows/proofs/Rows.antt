@@ -1,24 +1,23 @@
 -- Rows of numbers as the code holds them, and the numbers in them. Assumes nothing.
 use Prim.Native.Nat.{ℕ, zero, suc, _+_, _-_, _^_, _≤_, _<_}
-use mathlib.Core.Path.{_≡_, refl, sym, ap, _∙_, subst}
+use mathlib.Core.Path.{_≡_, refl, sym, _∙_, subst}
 use mathlib.Core.Bool.{cond}
 use mathlib.Core.List.{List, [], _∷_, _++_}
 use mathlib.Core.Logic.{_≢_}
 use native.Mathlib.Omega.{arith}
 use lib.Dec.{eqb}
-use lib.ListN.{length, take, drop, replicate}
+use lib.ListN.{length, take, drop}
 use lib.Seq.{take-all, length-take-le}
 use borrow.Author.Tests.{eq-eqb, ne-eqb}
-use Rattle.buffer.specs.Segments.{paste, pad}
 use Rattle.text.specs.Number.{Part, got, none, num, partOf}
 use Rattle.text.specs.Printed.{After}
 use Rattle.text.specs.declared.Num.{Num}
 use Rattle.text.specs.declared.Num.the-variants as N
 use Rattle.text.proofs.Choice.{cond-by}
 use Rattle.text.proofs.Printed.{num-said}
-use Rattle.lines.specs.Trace.{Row, row, no-row, begins, moreOf, numbers, space, fields, ifNumber, ifNumbers, ifExactly}
-use Rattle.lines.specs.Held.{UpTo, rowOf}
-use Rattle.lines.specs.declared.Span.{Span}
+use Rattle.rows.specs.Rows.{Row, row, no-row, begins, moreOf, numbers, space, fields, ifNumber, ifNumbers, ifExactly}
+use Rattle.rows.specs.Rows.{UpTo, rowOf}
+use Rattle.rows.specs.declared.Span.{Span}
 
 -- ---- What follows what the code read
 
@@ -82,15 +81,3 @@ module _ (sep most : ℕ) (lim : most < 10 ^ 20) where
   full-up-to k l line out s e n h =
       let f : row (take (s .count) out) (drop (s .next) line) ≡ fields sep most k l = sym (rw (ne-eqb (s .count) 0 n)) ∙ e in
       subst (UpTo most) (take-all (s .count) out h) (subst (RowUpTo most) (sym f) (fields-up-to k l))
-
--- ---- A file
-
-zeros-left : (n k : ℕ) → _≡_ {A = List ℕ} (drop k (replicate n 0)) (replicate (n - k) 0)
-zeros-left n zero = ap (λ (m : ℕ). replicate m 0) (let e : n ≡ n - 0 = omega arith in e)
-zeros-left zero (suc k) = ap (λ (m : ℕ). replicate m 0) (let e : 0 ≡ 0 - suc k = omega arith in e)
-zeros-left (suc n) (suc k) = zeros-left n k ∙ ap (λ (m : ℕ). replicate m 0) (let e : n - k ≡ suc n - suc k = omega arith in e)
-
--- the front of a blank file written is the file that is filled up with 0
-pub filled : (n : ℕ) (l : List ℕ) → paste (replicate n 0) 0 l ≡ pad n l
-unfolding paste pad
-filled n l = ap (λ (r : List ℕ). l ++ r) (zeros-left n (0 + length l) ∙ ap (λ (m : ℕ). replicate m 0) (let e : n - (0 + length l) ≡ n - length l = omega arith in e))

@@ -1,11 +1,11 @@
--- `lines::field` meets its contract. Assumes nothing.
-use Rattle.lines.proofs.Reading.{field-some, field-none, begins-place}
+-- `rows::field` meets its contract. Assumes nothing.
+use Rattle.rows.proofs.Reading.{field-some, field-none, begins-place}
 use Prim.Native.Nat.{_-_}
 use mathlib.Core.Path.{sym, _∙_}
 use native.Mathlib.Omega.{arith}
 use borrow.Author.Needs.{needs}
-use Rattle.lines.proofs.field.Statement.{statement}
-use Rattle.lines.proofs.field.Tie as tie
+use Rattle.rows.proofs.field.Statement.{statement}
+use Rattle.rows.proofs.field.Tie as tie
 
 begins-requires : tie.Need-begins-requires
 begins-requires c κs = search needs

@@ -1,8 +1,8 @@
--- `command::calm` meets its contract. Assumes nothing.
+-- `settings::calm` meets its contract. Assumes nothing.
 
 use borrow.Author.Needs.{needs}
-use Rattle.command.proofs.calm.Statement.{statement}
-use Rattle.command.proofs.calm.Tie as tie
+use Rattle.settings.proofs.calm.Statement.{statement}
+use Rattle.settings.proofs.calm.Tie as tie
 
 load-requires : tie.Need-load-requires
 load-requires c κs = search needs
