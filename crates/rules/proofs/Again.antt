@@ -11,13 +11,13 @@ use borrow.Author.Tests.{ltb-true, ltb-false, leb-true, lt-ltb, le-ltb, le-leb, 
 use native.Mathlib.Omega.{arith}
 use Rattle.rules.specs.declared.Answer.{Answer}
 use Rattle.rules.specs.Calls.{ask, Call, timed, Entry, entry, answer}
-use Rattle.rules.specs.Tables.{highestTime, inHour, fromNewest, freeIn, Kind, refusals}
+use Rattle.rules.specs.Tables.{highestTime, inHour, fromNewest, freeIn, Kind, refusals, among, limiting}
 use Rattle.rules.specs.Record.{lastTime, permits, backOffEnd, standing, mood}
 use Rattle.rules.specs.Rules.{Limit, limits, blocks, blockedBy, firstBlock, stands, refusal, runs, verdict, ruling, refused}
 use Rattle.rules.specs.State.{State, Facts}
 use Rattle.rules.specs.Told.{tells, ruled, told}
 use Rattle.rules.specs.Demand3.{Each, Again}
-use Rattle.rules.proofs.Among.{not-among}
+use Rattle.rules.proofs.Among.{among-all, not-among}
 use Rattle.rules.proofs.Checks.{refusal-low, in-range, on-time, fits, passes}
 use Rattle.rules.proofs.Groups.{four-path}
 use Rattle.rules.proofs.Newest.{Rising, rising-more, within-late, blocks-full}
@@ -246,10 +246,10 @@ module _ (g : State) (past : List Entry) (up : Rises g past) (t q : ℕ) (a : An
 
 -- ---- The theorem
 
-pub again : (g : State) → Starts g → (before : List Call) (t q : ℕ) → 11 ≤ ruled g (told g before) (timed t (ask q)) .number
+pub again : (g : State) → Starts g → (before : List Call) (t q : ℕ) → among (ruled g (told g before) (timed t (ask q)) .number) limiting ≡ true
     → Again g before t q (ruled g (told g before) (timed t (ask q)))
 unfolding after
-again g b before t q limit = record { too-early = λ u h k m. rw told-after (sooner g past up t q a refl limit u h k m); in-time = λ u k. rw told-after (later g past up t q a refl limit u k) }
+again g b before t q named = record { too-early = λ u h k m. rw told-after (sooner g past up t q a refl limit u h k m); in-time = λ u k. rw told-after (later g past up t q a refl limit u k) }
   where
     past : List Entry
     past = told g before
@@ -259,6 +259,9 @@ again g b before t q limit = record { too-early = λ u h k m. rw told-after (soo
 
     a : Answer
     a = ruled g past (timed t (ask q))
+
+    limit : 11 ≤ a .number
+    limit = among-all (λ m. 11 ≤ m) (a .number) limiting (omega arith) named
 
     not-refused : refused a ≡ false
     not-refused = not-among (a .number) refusals (omega (arith, limit))

@@ -265,7 +265,7 @@ held-same w s (c ∷ cs) = rw (step-same w s c) (held-same (learn w c (ruling w 
 
 -- ---- From a start
 
--- a start that a buffer can stand for: sound, and no list longer than 255
+-- what cutting each list to its newest 255 leaves as it was, after the calls cs from the start g
 pub record Bounded (g : State) (cs : List Call) : Type 0 where
   -- the answers to the calls are those that the full lists give
   pub same-answers : heldAnswers g cs ≡ answers g cs

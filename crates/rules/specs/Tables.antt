@@ -50,9 +50,12 @@ among c (x ∷ l) = eqb c x || among c l
 abbrev pub refusals : List ℕ
 refusals = 1 ∷ 2 ∷ 3 ∷ 4 ∷ 5 ∷ []
 
--- the rules that block, in document 01's order
+-- the limits, and the rules that block, which are the back-off and they, in document 01's order
+abbrev pub limiting : List ℕ
+limiting = 11 ∷ 13 ∷ 14 ∷ 15 ∷ 16 ∷ 17 ∷ 18 ∷ []
+
 abbrev pub rules : List ℕ
-rules = 10 ∷ 11 ∷ 13 ∷ 14 ∷ 15 ∷ 16 ∷ 17 ∷ 18 ∷ []
+rules = 10 ∷ limiting
 
 -- the blocks by N1 and F1-F4: n raises counter n - 11 of the six
 abbrev pub counting : List ℕ
