@@ -18,8 +18,8 @@ use Rattle.mixing.specs.Mixing.{drawn}
 use Rattle.rules.specs.Tables.{highestTime, Kind, among, counting, action, moodOn, oneMore, interval, waitFor, ascending, scheduled}
 use Rattle.rules.specs.Rules.{check, refusal, wait, failed, verdict, ruling, refused, moved, raised, counted, asked, onGranted, onFailed, onOutcome, acted, switched, obeyed, changed, enters, adds, learn, newest, short, step}
 use Rattle.rules.specs.State.{State, Facts, Services, withCounters, withServices, withStanding, idle}
-use Rattle.rules.proofs.Checks.{accepted, on-time, in-time, refused-adds, failed-wait, failed-on}
-use Rattle.rules.proofs.Newest.{acted-keeps, obeyed-keeps}
+use Rattle.rules.proofs.Checks.{accepted, on-time, in-time, passed-verdict, refused-adds, failed-wait, failed-on}
+use Rattle.rules.proofs.Newest.{changed-keeps}
 use Rattle.buffer.specs.Good.{atMost, zeros, bytes, highestEnd, valid}
 use Rattle.rules.proofs.Checks.{and-left, and-right}
 use Rattle.buffer.proofs.Goodness.{at-most}
@@ -443,10 +443,6 @@ pub newest-all : (l : List ℕ) → length l ≤ 255 → newest l ≡ l
 unfolding newest
 newest-all l h = let e : length l - 255 ≡ 0 = omega arith in rw e
 
-moved-keeps : (f : Facts) (t : ℕ) → (moved t f .opening ≡ f .opening) × (moved t f .last ≡ t)
-unfolding moved
-moved-keeps f t = (refl, refl)
-
 module _ (v : State) (h : Valid v) where
   -- lists to which nothing is added
   kept-rising : (f : Facts) → f .opening ≡ v .facts .opening → f .last ≡ v .facts .last → (k : Kind) (l : List ℕ) → l ≡ [] → ascending (f .opening .opened) (f .last) (newest (v .lists k ++ l)) ≡ true
@@ -456,20 +452,15 @@ module _ (v : State) (h : Valid v) where
   unfolding changed adds
   accepted-valid (timed t e) a d p =
       let late = on-time (v .facts) t e p in
-      let keeps = acted-keeps t e a (moved t (v .facts)) in
-      let m = moved-keeps (v .facts) t in
+      let keeps = changed-keeps (timed t e) a (v .facts) in
       record {
         sane = acted-sane v t e (h .sane) late (in-time (v .facts) t e p) a d;
         short = λ k. newest-short _;
-        rising = λ k. rw (keeps .0, keeps .1, m .0, m .1) (listed _ _ t (v .lists k) (enters e (a .number) k) (h .sane .late) late (h .rising k));
+        rising = λ k. rw (keeps .0, keeps .1) (listed _ _ t (v .lists k) (enters e (a .number) k) (h .sane .late) late (h .rising k));
       }
   accepted-valid (typed l) a d p =
-      let keeps = obeyed-keeps l (v .facts) in
+      let keeps = changed-keeps (typed l) a (v .facts) in
       record { sane = obeyed-sane (v .facts) l (h .sane) p; short = λ k. newest-short _; rising = λ k. kept-rising (obeyed l (v .facts)) (keeps .0) (keeps .1) k [] refl }
-
-  verdict-of : (c : Call) → refusal (v .facts) c ≡ 0 → ruling v c ≡ verdict v c
-  unfolding ruling
-  verdict-of c p = rw (eq-eqb (refusal (v .facts) c) 0 p)
 
   stays : (c : Call) → Valid (step v c)
   unfolding step short learn
@@ -480,7 +471,7 @@ module _ (v : State) (h : Valid v) where
 
       go : (b : Bool) → refused a ≡ b → Valid (record { facts = cond b (v .facts) (changed c a (v .facts)); lists = λ k. newest (v .lists k ++ adds k c a) })
       go true e = record { sane = h .sane; short = λ k. newest-short _; rising = λ k. kept-rising (v .facts) refl refl k _ (refused-adds k c a e) }
-      go false e = let p = accepted v c e in accepted-valid c a (verdict-of c p) p
+      go false e = let p = accepted v c e in accepted-valid c a (passed-verdict v c p) p
 
 -- a valid state stays valid
 pub keep : (v : State) → valid v ≡ true → (c : Call) → valid (step v c) ≡ true

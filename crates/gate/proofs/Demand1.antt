@@ -12,6 +12,8 @@ use Rattle.buffer.specs.Layout.{lay, factsOf, view}
 use Rattle.buffer.specs.Good.{good}
 use Rattle.card.specs.Card.{written}
 use Rattle.clock.specs.Call.{callAnswer, callAfter, Says}
+use Rattle.reasons.specs.Why.{RoomSays}
+use Rattle.reasons.proofs.Room.{room-left}
 use Rattle.opening.specs.Open.{Order, openNumber, openAfter, OpenSays}
 use Rattle.saving.specs.Save.{saves, SaveSays}
 use Rattle.command.specs.Command.{CommandSays}
@@ -40,3 +42,7 @@ save-refused b room r x y s h = (s .left, s .room ∙ go (saves b room) (ap (λ 
 -- a line that is refused leaves the state and the room
 pub command-refused : (b line room : List ℕ) (r : Answer) (x y : List ℕ) → CommandSays b line room r x y → r .number ≢ 0 → (x ≡ b) × (y ≡ room)
 command-refused b line room r x y s h = refused-line s h
+
+-- `why` is lent the state to be read only; what is refused leaves the room
+pub why-refused : (b : List ℕ) (t q : ℕ) (room : List ℕ) (r : Answer) (x : List ℕ) → RoomSays b t q room r x → refused r ≡ true → x ≡ room
+why-refused b t q room r x s h = room-left b t q room r x s h

@@ -1,22 +1,32 @@
--- An accepted opening holds what its files rule, and a written counter file reads back as the same counters: the card's counters go out by one call and
--- come back by an opening. Assumes nothing.
+-- An accepted opening holds what its files rule; a written counter file reads back as the same
+-- counters: they go out by one call and come back by an opening; a permit stands on its lists.
+-- Assumes nothing.
 use mathlib.Core.Path.{_≡_, refl, sym, ap, _∙_}
 use mathlib.Core.Bool.{Bool, true, false, cond}
-use mathlib.Core.List.{List}
+use mathlib.Core.List.{List, _++_, append-nil}
 use Prim.Native.Nat.{ℕ, _+_, _<_}
 use native.Mathlib.Omega.{arith}
 use lib.Dec.{lit<}
 use lib.ListN.{getD, drop, replicate}
 use lib.Seq.{getD-take, getD-drop}
 use Rattle.rules.specs.declared.Answer.{Answer}
-use Rattle.rules.specs.Calls.{Counter, C-BR-1, C-R-1, C-PDP-1, C-PDP-2, C-PDP-3, C-PDP-4, answer}
-use Rattle.rules.specs.Tables.{ofSix}
+use Rattle.rules.specs.Calls.{Counter, C-BR-1, C-R-1, C-PDP-1, C-PDP-2, C-PDP-3, C-PDP-4, Call, timed, answer}
+use Rattle.rules.specs.declared.Event.the-variants.{Ask as ask}
+use Rattle.rules.specs.Tables.{Kind, ofSix}
+use Rattle.rules.specs.Rules.{ruling, enters, adds, learn, newest, short, step}
+use Rattle.rules.specs.State.{State}
 use Rattle.buffer.specs.Places.{COUNTERS}
-use Rattle.buffer.specs.Layout.{factsOf}
+use Rattle.buffer.specs.Layout.{factsOf, place, row, view}
+use Rattle.buffer.specs.Good.{good}
+use Rattle.buffer.proofs.Goodness.{view-lay-valid, valid-view}
+use Rattle.buffer.proofs.Keep.{newest-all, keep}
 use Rattle.card.specs.Card.{absent, rulingFile, written}
+use Rattle.clock.specs.Call.{callAnswer, Says}
+use Rattle.clock.proofs.Saying.{lists-short, after-is, answer-is}
 use Rattle.opening.specs.Open.{Order, Typed, OpenSays, Ruled}
 use Rattle.opening.proofs.Opened.{opened-rules}
 use Rattle.saving.specs.Save.{saves, SaveSays}
+use Rattle.gate.specs.Demands.{Grows}
 
 -- the six counters of what was written; it is there, so it rules
 written-rules : (c : List ℕ) (k : Counter) → ofSix (rulingFile (written c) (replicate 32 0)) k ≡ ofSix c k
@@ -60,3 +70,42 @@ counters-return b room r x y s e c o q z t f p d k =
     file : (w : Bool) → (cond w (answer 0 32) (answer 1 0)) .number ≡ 0 → cond w (written (factsOf b .counters)) room ≡ written (factsOf b .counters)
     file true h = refl
     file false h = absurd (omega arith)
+
+-- ---- Permits
+
+-- a buffer that permits is good, since a bad one is answered 1
+permits-good : (b : List ℕ) (c : Call) → callAnswer b c .number ≡ 0 → good b ≡ true
+unfolding callAnswer
+permits-good b c z = go (good b) refl z
+  where
+    go : (x : Bool) → good b ≡ x → cond x (ruling (view b) c) (answer 1 0) .number ≡ 0 → x ≡ true
+    go true e z = refl
+    go false e z = absurd (omega arith)
+
+module _ (b : List ℕ) (t q : ℕ) (r : Answer) (x : List ℕ) (s : Says b (timed t (ask q)) r x) (z : r .number ≡ 0) where
+  c : Call
+  c = timed t (ask q)
+
+  zero-is : callAnswer b (timed t (ask q)) .number ≡ 0
+  zero-is = ap (λ (a : Answer). a .number) (sym (s .answered)) ∙ z
+
+  g : good b ≡ true
+  g = permits-good b (timed t (ask q)) zero-is
+
+  ruling-is : ruling (view b) c .number ≡ 0
+  unfolding c
+  ruling-is = ap (λ (a : Answer). a .number) (sym (answer-is b g c (ruling (view b) c) refl)) ∙ zero-is
+
+  row-is : (k : Kind) → row x (place k) ≡ newest (row b (place k) ++ adds k c (ruling (view b) c))
+  unfolding c step short learn
+  row-is k =
+      ap (λ (y : List ℕ). view y .lists k) (s .left ∙ after-is b g c (ruling (view b) c) refl)
+      ∙ ap (λ (w : State). w .lists k) (view-lay-valid (step (view b) c) (keep (view b) (valid-view b g) c))
+
+  -- a permitted request is added to each of its lists, and to no other
+  pub permit-grows : Grows b t q x
+  unfolding c adds enters
+  permit-grows = record {
+    added = λ k h. row-is k ∙ rw (ruling-is, h);
+    others = λ k h. row-is k ∙ rw (ruling-is, h, append-nil) (newest-all (row b (place k)) (lists-short b g k));
+  }

@@ -9,13 +9,15 @@ use lib.Dec.{leb, eqb}
 use lib.ListN.{length}
 use borrow.Author.Tests.{eq-eqb}
 use Rattle.rules.specs.declared.Answer.{Answer}
-use Rattle.rules.specs.Calls.{Call, typed}
-use Rattle.rules.specs.Tables.{highestTime}
-use Rattle.rules.specs.Rules.{ruling, short, step, held}
+use Rattle.rules.specs.Calls.{Call, timed, typed, Entry}
+use Rattle.rules.specs.declared.Event.the-variants.{Ask as ask}
+use Rattle.rules.specs.Tables.{highestTime, among, limiting}
+use Rattle.rules.specs.Rules.{ruling, step, held, heldAnswers}
 use Rattle.rules.specs.State.{State}
-use Rattle.rules.specs.Told.{tells, ruled, told}
-use Rattle.rules.specs.Demand3.{Demand3}
-use Rattle.rules.proofs.Demand3.{Starts, as-the-rules, demand-3, held-told}
+use Rattle.rules.specs.Told.{tells, ruled, entered, onward, ruledAll, told}
+use Rattle.rules.specs.Demand3.{Again}
+use Rattle.rules.proofs.Demand3.{Starts, as-the-rules, whole, demand-3, held-told, held-answers}
+use Rattle.rules.proofs.Again.{again}
 use Rattle.rules.proofs.RecordTells.{known-tells}
 use Rattle.rules.proofs.Newest.{Sound, known-sound}
 use Rattle.buffer.specs.Places.{SIZE}
@@ -33,17 +35,24 @@ use Rattle.opening.proofs.Opened.{opened-valid}
 use Rattle.at.specs.Lines.{readLine}
 use Rattle.command.specs.Command.{CommandSays}
 use Rattle.command.proofs.Lined.{heard-says, unheard-left}
-use Rattle.gate.specs.History.{Doing, opened, called, obeyed, saved, Run, done, then, accepts, Since, since}
+use Rattle.gate.specs.History.{Doing, opened, called, obeyed, saved, Run, done, then, accepts, Since, begun, heard, since, recorded, recordOf}
+use Rattle.gate.specs.Demands.{AskedAgain, OnTheBuffer}
 
--- the buffer b holds what the calls cs since the start g leave
-record Kept (g : State) (cs : List Call) (b : List ℕ) : Type 0 where
-  starts : Starts g
-  valid : valid (held g cs) ≡ true
-  is : b ≡ lay (held g cs)
+-- the buffer b holds what the calls since the start leave, and they were answered as what it held
+-- says
+record Kept (h : Since) (b : List ℕ) : Type 0 where
+  starts : Starts (h .given)
+  valid : valid (held (h .given) (h .before)) ≡ true
+  is : b ≡ lay (held (h .given) (h .before))
+  answered : h .answers ≡ heldAnswers (h .given) (h .before)
 
 held-append : (v : State) (cs : List Call) (c : Call) → held v (cs ++ (c ∷ [])) ≡ step (held v cs) c
 held-append v [] c = refl
 held-append v (d ∷ cs) c = held-append (step v d) cs c
+
+answers-append : (v : State) (cs : List Call) (c : Call) → heldAnswers v (cs ++ (c ∷ [])) ≡ heldAnswers v cs ++ (ruling (held v cs) c ∷ [])
+answers-append v [] c = refl
+answers-append v (d ∷ cs) c = ap (λ (l : List Answer). ruling v d ∷ l) (answers-append (step v d) cs c)
 
 -- ---- A valid state laid out
 
@@ -54,18 +63,26 @@ module _ (v : State) (h : valid v ≡ true) (c : Call) where
   pub after-lay : callAfter (lay v) c ≡ lay (step v c)
   after-lay = after-is (lay v) (good-lay v h) c (ruling (view (lay v)) c) refl ∙ ap (λ (w : State). lay (step w c)) (view-lay-valid v h)
 
-module _ (g : State) (cs : List Call) (b : List ℕ) (k : Kept g cs b) where
-  kept-good : good b ≡ true
-  kept-good = rw (k .is) (good-lay (held g cs) (k .valid))
+module _ (h : Since) (b : List ℕ) (k : Kept h b) where
+  now : State
+  now = held (h .given) (h .before)
 
-  kept-called : (c : Call) (r : Answer) (x : List ℕ) → Says b c r x → Kept g (cs ++ (c ∷ [])) x
-  kept-called c r x s =
-      let v = held g cs in
-      record {
-        starts = k .starts;
-        valid = rw (held-append g cs c) (keep v (k .valid) c);
-        is = s .left ∙ ap (λ (y : List ℕ). callAfter y c) (k .is) ∙ after-lay v (k .valid) c ∙ ap (λ (w : State). lay w) (sym (held-append g cs c));
-      }
+  kept-good : good b ≡ true
+  kept-good = rw (k .is) (good-lay (held (h .given) (h .before)) (k .valid))
+
+  kept-answer : (c : Call) → callAnswer b c ≡ ruling (held (h .given) (h .before)) c
+  kept-answer c = ap (λ (y : List ℕ). callAnswer y c) (k .is) ∙ answer-lay (held (h .given) (h .before)) (k .valid) c
+
+  kept-called : (c : Call) (r : Answer) (x : List ℕ) → Says b c r x → Kept (heard h c r) x
+  unfolding now
+  kept-called c r x s = record {
+    starts = k .starts;
+    valid = rw (held-append (h .given) (h .before) c) (keep now (k .valid) c);
+    is =
+        s .left ∙ ap (λ (y : List ℕ). callAfter y c) (k .is) ∙ after-lay now (k .valid) c
+        ∙ ap (λ (w : State). lay w) (sym (held-append (h .given) (h .before) c));
+    answered = rw (k .answered, s .answered, kept-answer c) (sym (answers-append (h .given) (h .before) c));
+  }
 
 -- ---- Opening
 
@@ -92,105 +109,119 @@ module _ (b : List ℕ) (long : length b ≡ SIZE) (o : Order) where
       go true false e = refl
       go false y e = refl
 
-opened-kept : (b : List ℕ) (o : Order) (r : Answer) (x : List ℕ) → Typed o → openNumber b o ≡ 0 → OpenSays b o r x → Kept (givenBy o) [] x
+opened-kept : (b : List ℕ) (o : Order) (r : Answer) (x : List ℕ) → Typed o → openNumber b o ≡ 0 → OpenSays b o r x → Kept (begun (givenBy o)) x
 unfolding openAfter
 opened-kept b o r x t z s = record {
   starts = valid-starts (givenBy o) (opened-valid b o z t);
   valid = opened-valid b o z t;
   is = s .left ∙ rw (eq-eqb (openNumber b o) 0 z);
+  answered = refl;
 }
 
 -- ---- Any doings
 
-kept-as : {g : State} {cs : List Call} {b x : List ℕ} → Kept g cs b → x ≡ b → Kept g cs x
-kept-as k e = record { starts = k .starts; valid = k .valid; is = e ∙ k .is }
+kept-as : {h : Since} {b x : List ℕ} → Kept h b → x ≡ b → Kept h x
+kept-as k e = record { starts = k .starts; valid = k .valid; is = e ∙ k .is; answered = k .answered }
 
--- after an opening, accepted or not: `next` is what the doings after it lead to
-opening-kept : (g : State) (cs : List Call) (b : List ℕ) (o : Order) (r : Answer) (y : List ℕ) (next : State → List Call → Since) (x : List ℕ)
-    → Kept g cs b → Typed o → OpenSays b o r y → ((h : State) (es : List Call) → Kept h es y → Kept (next h es .given) (next h es .before) x)
-    → Kept ((cond (accepts o) (next (givenBy o) []) (next g cs)) .given) ((cond (accepts o) (next (givenBy o) []) (next g cs)) .before) x
+-- after an opening, accepted or not
+opening-kept : (h : Since) (b : List ℕ) (o : Order) (r : Answer) (x : List ℕ) → Kept h b → Typed o → OpenSays b o r x → Kept (cond (accepts o) (begun (givenBy o)) h) x
 unfolding openAfter
-opening-kept g cs b o r y next x k t s go = by (accepts o) refl
+opening-kept h b o r x k t s = by (accepts o) refl
   where
     long : length b ≡ SIZE
-    long = good-shape b (kept-good g cs b k) .long
+    long = good-shape b (kept-good h b k) .long
 
-    by : (a : Bool) → accepts o ≡ a → Kept ((cond a (next (givenBy o) []) (next g cs)) .given) ((cond a (next (givenBy o) []) (next g cs)) .before) x
-    by true e = go (givenBy o) [] (opened-kept b o r y t (number-ok b long o e) s)
-    by false e = go g cs (kept-as k (s .left ∙ rw (number-no b long o e)))
+    by : (a : Bool) → accepts o ≡ a → Kept (cond a (begun (givenBy o)) h) x
+    by true e = opened-kept b o r x t (number-ok b long o e) s
+    by false e = kept-as k (s .left ∙ rw (number-no b long o e))
 
 -- after an AT line, read or not
-typing-kept : (g : State) (cs : List Call) (b line room : List ℕ) (r : Answer) (y z : List ℕ) (next : List Call → Since) (x : List ℕ)
-    → Kept g cs b → CommandSays b line room r y z → ((es : List Call) → Kept g es y → Kept (next es .given) (next es .before) x)
-    → Kept ((cond (leb 16 (length room)) (next (cs ++ (typed (readLine line) ∷ []))) (next cs)) .given) ((cond (leb 16 (length room)) (next (cs ++ (typed (readLine line) ∷ []))) (next cs)) .before) x
-typing-kept g cs b line room r y z next x k s go = by (leb 16 (length room)) refl
+typing-kept : (h : Since) (b line room : List ℕ) (r : Answer) (x y : List ℕ) → Kept h b → CommandSays b line room r x y
+    → Kept (cond (leb 16 (length room)) (heard h (typed (readLine line)) r) h) x
+typing-kept h b line room r x y k s = by (leb 16 (length room)) refl
   where
-    by : (a : Bool) → leb 16 (length room) ≡ a → Kept ((cond a (next (cs ++ (typed (readLine line) ∷ []))) (next cs)) .given) ((cond a (next (cs ++ (typed (readLine line) ∷ []))) (next cs)) .before) x
-    by true e = go (cs ++ (typed (readLine line) ∷ [])) (kept-called g cs b k (typed (readLine line)) r y (heard-says (kept-good g cs b k) e s))
-    by false e = go cs (kept-as k (unheard-left e s))
+    by : (a : Bool) → leb 16 (length room) ≡ a → Kept (cond a (heard h (typed (readLine line)) r) h) x
+    by true e = kept-called h b k (typed (readLine line)) r x (heard-says (kept-good h b k) e s)
+    by false e = kept-as k (unheard-left e s)
 
-run-kept : (g : State) (cs : List Call) {b x : List ℕ} {ds : List Doing} {rs : List Answer} → Kept g cs b → Run b ds rs x
-    → Kept (since g cs ds .given) (since g cs ds .before) x
-run-kept g cs k done = k
-run-kept g cs {b = b} k (then (called {c = c} {r = r} {x = y} s) q) = run-kept g (cs ++ (c ∷ [])) (kept-called g cs b k c r y s) q
-run-kept g cs {b = b} {x = x} k (then {ds = ds} (obeyed {line = line} {room = room} {r = r} {x = y} {y = z} s) q) =
-    typing-kept g cs b line room r y z (λ es. since g es ds) x k s (λ es m. run-kept g es m q)
-run-kept g cs k (then (saved s) q) = run-kept g cs (kept-as k (s .left)) q
-run-kept g cs {b = b} {x = x} k (then {ds = ds} (opened {o = o} {r = r} {x = y} t s) q) =
-    opening-kept g cs b o r y (λ h es. since h es ds) x k t s (λ h es m. run-kept h es m q)
+run-kept : (h : Since) {b x : List ℕ} {ds : List Doing} {rs : List Answer} → Kept h b → Run b ds rs x → Kept (since h ds rs) x
+run-kept h k done = k
+run-kept h {b = b} k (then (called {c = c} {r = r} {x = y} s) q) = run-kept (heard h c r) (kept-called h b k c r y s) q
+run-kept h {b = b} k (then (obeyed {line = line} {room = room} {r = r} {x = y} {y = z} s) q) = run-kept _ (typing-kept h b line room r y z k s) q
+run-kept h k (then (saved s) q) = run-kept h (kept-as k (s .left)) q
+run-kept h {b = b} k (then (opened {o = o} {r = r} {x = y} t s) q) = run-kept _ (opening-kept h b o r y k t s) q
 
 -- ---- The theorem
-
--- of the buffer x after the calls `before` since the start g
-pub record OnTheBuffer (g : State) (before : List Call) (x : List ℕ) : Type 0 where
-  -- whatever a call's promise allows as its answer is the rules' answer over the record
-  pub next : (c : Call) (r : Answer) (y : List ℕ) → Says x c r y → r ≡ ruled g (told g before) c
-  -- so of an AT line, by the promise of its own call
-  pub next-line : (line room : List ℕ) (r : Answer) (y z : List ℕ) → leb 16 (length room) ≡ true → CommandSays x line room r y z → r ≡ ruled g (told g before) (typed (readLine line))
-  -- the sentences of demand 3
-  pub demand : Demand3 g before (λ c. callAnswer x c)
-  -- the 1,330 places are what the record tells, each list cut to its newest 255
-  pub places : x ≡ lay (short (tells g (told g before)))
-  pub stays-good : good x ≡ true
-  -- why a request would not be permitted is told as the record has it
-  pub why : (t q : ℕ) → whyOf x t q ≡ reasons (tells g (told g before)) t q
 
 tells-sound : (g : State) → Starts g → (cs : List Call) → Sound (tells g (told g cs))
 tells-sound g b cs = rw (← known-tells g (b .begins) cs) (known-sound g (b .sound) cs)
 
-told-why : (g : State) (before : List Call) (x : List ℕ) → Kept g before x → (t q : ℕ) → whyOf x t q ≡ reasons (tells g (told g before)) t q
+told-why : (h : Since) (x : List ℕ) → Kept h x → (t q : ℕ) → whyOf x t q ≡ reasons (tells (h .given) (told (h .given) (h .before))) t q
 unfolding whyOf
-told-why g before x k t q =
-    let v = held g before in
+told-why h x k t q =
+    let v = held (h .given) (h .before) in
     ap (λ (y : List ℕ). whyOf y t q) (k .is)
     ∙ rw (good-lay v (k .valid)) (ap (λ (w : State). reasons w t q) (view-lay-valid v (k .valid)))
-    ∙ ap (λ (w : State). reasons w t q) (held-told g (k .starts) before)
-    ∙ reasons-same (tells g (told g before)) (tells-sound g (k .starts) before) t q
+    ∙ ap (λ (w : State). reasons w t q) (held-told (h .given) (k .starts) (h .before))
+    ∙ reasons-same (tells (h .given) (told (h .given) (h .before))) (tells-sound (h .given) (k .starts) (h .before)) t q
 
-on-the-buffer : (g : State) (before : List Call) (x : List ℕ) → Kept g before x → OnTheBuffer g before x
-on-the-buffer g before x k =
-    let v = held g before in
-    let same : (c : Call) → callAnswer x c ≡ ruled g (told g before) c =
-    λ c. ap (λ (y : List ℕ). callAnswer y c) (k .is) ∙ answer-lay v (k .valid) c ∙ demand-3 g (k .starts) before .as-the-record c in
+-- the record of what the rules answer is the rules' own
+recorded-told : (g : State) (past : List Entry) (cs : List Call) → recorded past cs (ruledAll g past cs) ≡ onward g past cs
+recorded-told g past [] = refl
+recorded-told g past (c ∷ cs) = recorded-told g (entered c (ruled g past c) past) cs
+
+module _ (h : Since) (x : List ℕ) (k : Kept h x) where
+  kept-answers : h .answers ≡ ruledAll (h .given) [] (h .before)
+  kept-answers = k .answered ∙ held-answers (h .given) (k .starts) (h .before)
+
+  kept-record : recordOf h ≡ told (h .given) (h .before)
+  kept-record = rw kept-answers (recorded-told (h .given) [] (h .before))
+
+  kept-ruled : (c : Call) → callAnswer x c ≡ ruled (h .given) (told (h .given) (h .before)) c
+  kept-ruled c = kept-answer h x k c ∙ demand-3 (h .given) (k .starts) (h .before) .as-the-record c
+
+module _ (h : Since) (x : List ℕ) (k : Kept h x) (t q : ℕ) (a : Answer) (y : List ℕ) (s : Says x (timed t (ask q)) a y) where
+  is : a ≡ ruled (h .given) (told (h .given) (h .before)) (timed t (ask q))
+  is = s .answered ∙ kept-ruled h x k (timed t (ask q))
+
+  then-ruled : (u : ℕ) → callAnswer y (timed u (ask q)) ≡ ruled (h .given) (told (h .given) (h .before ++ (timed t (ask q) ∷ []))) (timed u (ask q))
+  then-ruled u = kept-ruled (heard h (timed t (ask q)) a) y (kept-called h x k (timed t (ask q)) a y s) (timed u (ask q))
+
+  asked-again : among (a .number) limiting ≡ true → AskedAgain t q a y
+  asked-again m =
+      let blocked : Again (h .given) (h .before) t q a = rw (← is) at (again (h .given) (k .starts) (h .before) t q (rw is at m)) in
+      record {
+        too-early = λ u r z p l e n. p .answered ∙ then-ruled u ∙ blocked .too-early u l e n;
+        in-time = λ u r z p l. rw (p .answered, then-ruled u) (blocked .in-time u l);
+      }
+
+on-the-buffer : (h : Since) (x : List ℕ) → Kept h x → OnTheBuffer h x
+on-the-buffer h x k =
+    let same = kept-ruled h x k in
+    let told-so = kept-record h x k in
     record {
-      next = λ c r y s. s .answered ∙ same c;
-      next-line = λ line room r y z h s. heard-says (kept-good g before x k) h s .answered ∙ same (typed (readLine line));
-      demand = as-the-rules g (k .starts) before (λ c. callAnswer x c) same;
-      places = k .is ∙ ap (λ (w : State). lay w) (held-told g (k .starts) before);
-      stays-good = kept-good g before x k;
-      why = λ t q. told-why g before x k t q;
+      answers = kept-answers h x k;
+      as-told = told-so;
+      next = λ c r y s. rw told-so (s .answered ∙ same c);
+      next-line = λ line room r y z e s. rw told-so (heard-says (kept-good h x k) e s .answered ∙ same (typed (readLine line)));
+      demand = rw told-so (as-the-rules (h .given) (k .starts) (h .before) (λ c. callAnswer x c) same);
+      whole = λ other d c. whole (h .given) (k .starts) (h .before) other (rw told-so at d) c ∙ sym (same c);
+      again = λ t q a y s m. asked-again h x k t q a y s m;
+      places = rw told-so (k .is ∙ ap (λ (w : State). lay w) (held-told (h .given) (k .starts) (h .before)));
+      stays-good = kept-good h x k;
+      why = λ t q. rw told-so (told-why h x k t q);
     }
 
 -- DEMAND 3: a buffer of any contents is opened by o, answered 0, and then anything is done with it
 pub demand-3-on-the-buffer : (b : List ℕ) (o : Order) (r : Answer) (y : List ℕ) → Typed o → OpenSays b o r y → r .number ≡ 0
-    → (ds : List Doing) (rs : List Answer) (x : List ℕ) → Run y ds rs x → OnTheBuffer (since (givenBy o) [] ds .given) (since (givenBy o) [] ds .before) x
+    → (ds : List Doing) (rs : List Answer) (x : List ℕ) → Run y ds rs x → OnTheBuffer (since (begun (givenBy o)) ds rs) x
 demand-3-on-the-buffer b o r y t s z ds rs x q =
     let number : openNumber b o ≡ 0 = ap (λ (a : Answer). a .number) (sym (s .answered)) ∙ z in
-    on-the-buffer _ _ x (run-kept (givenBy o) [] (opened-kept b o r y t number s) q)
+    on-the-buffer _ x (run-kept (begun (givenBy o)) (opened-kept b o r y t number s) q)
 
 -- and from any good buffer on, however it came to be: the record begins with what it holds
 pub demand-3-from-a-good-buffer : (b : List ℕ) → good b ≡ true
-    → (ds : List Doing) (rs : List Answer) (x : List ℕ) → Run b ds rs x → OnTheBuffer (since (view b) [] ds .given) (since (view b) [] ds .before) x
+    → (ds : List Doing) (rs : List Answer) (x : List ℕ) → Run b ds rs x → OnTheBuffer (since (begun (view b)) ds rs) x
 demand-3-from-a-good-buffer b h ds rs x q =
     let v = valid-view b h in
-    on-the-buffer _ _ x (run-kept (view b) [] (record { starts = valid-starts (view b) v; valid = v; is = sym (lay-view-good b h) }) q)
+    on-the-buffer _ x (run-kept (begun (view b)) (record { starts = valid-starts (view b) v; valid = v; is = sym (lay-view-good b h); answered = refl }) q)

@@ -6,9 +6,10 @@ use Prim.Native.Nat.{ℕ}
 use lib.Dec.{leb}
 use lib.ListN.{length}
 use Rattle.rules.specs.declared.Answer.{Answer}
-use Rattle.rules.specs.Calls.{Call, typed}
+use Rattle.rules.specs.Calls.{Call, typed, Entry}
 use Rattle.rules.specs.Tables.{highestTime}
 use Rattle.rules.specs.State.{State}
+use Rattle.rules.specs.Told.{entered}
 use Rattle.clock.specs.Call.{Says}
 use Rattle.opening.specs.Open.{Order, Typed, settings, files, givenBy, OpenSays}
 use Rattle.saving.specs.Save.{SaveSays}
@@ -38,15 +39,34 @@ pub data Run : List ℕ → List Doing → List Answer → List ℕ → Type 0 w
 unfoldable pub accepts : Order → Bool
 accepts o = settings o && files o && leb (o .time) highestTime
 
--- since the last accepted opening, or since the first start where there was none: that start, and
--- the calls after it, the oldest first; a line whose room is under 16 bytes is not read
+-- since the last accepted opening, or since the first start where there was none: that start, the
+-- calls after it, the oldest first, and the answers that they were given, one for each
 pub record Since : Type 0 where
   pub given : State
   pub before : List Call
+  pub answers : List Answer
 
-abbrev pub since : State → List Call → List Doing → Since
-since g cs [] = record { given = g; before = cs }
-since g cs (opens o ∷ ds) = cond (accepts o) (since (givenBy o) [] ds) (since g cs ds)
-since g cs (calls c ∷ ds) = since g (cs ++ (c ∷ [])) ds
-since g cs (types line room ∷ ds) = cond (leb 16 (length room)) (since g (cs ++ (typed (readLine line) ∷ [])) ds) (since g cs ds)
-since g cs (saves room ∷ ds) = since g cs ds
+abbrev pub begun : State → Since
+begun g = record { given = g; before = []; answers = [] }
+
+abbrev pub heard : Since → Call → Answer → Since
+heard h c r = record { given = h .given; before = h .before ++ (c ∷ []); answers = h .answers ++ (r ∷ []) }
+
+-- what doings with the answers rs make of it; a line whose room is under 16 bytes is not read
+abbrev pub since : Since → List Doing → List Answer → Since
+since h [] rs = h
+since h (d ∷ ds) [] = h
+since h (opens o ∷ ds) (r ∷ rs) = since (cond (accepts o) (begun (givenBy o)) h) ds rs
+since h (calls c ∷ ds) (r ∷ rs) = since (heard h c r) ds rs
+since h (types line room ∷ ds) (r ∷ rs) = since (cond (leb 16 (length room)) (heard h (typed (readLine line)) r) h) ds rs
+since h (saves room ∷ ds) (r ∷ rs) = since h ds rs
+
+-- the record of calls and the answers that they were given, the newest first; a refused call is no
+-- part of it
+abbrev pub recorded : List Entry → List Call → List Answer → List Entry
+recorded past [] rs = past
+recorded past (c ∷ cs) [] = past
+recorded past (c ∷ cs) (r ∷ rs) = recorded (entered c r past) cs rs
+
+abbrev pub recordOf : Since → List Entry
+recordOf h = recorded [] (h .before) (h .answers)

@@ -16,9 +16,8 @@ use Rattle.rules.specs.declared.Answer.{Answer}
 use Rattle.rules.specs.Tables.{attach, inHour, freeIn, rules}
 use Rattle.rules.specs.Rules.{Limit, limit, limits, blocks, blockedBy, firstBlock, stands, refusal, runs, verdict, ruling}
 use Rattle.rules.specs.State.{State, idle}
-use Rattle.rules.specs.Demand3.{Each}
-use Rattle.rules.proofs.Demand3.{first-is as first-number-is}
-use Rattle.rules.proofs.Again.{Ordered, ordered, each-other}
+use Rattle.rules.proofs.Rows.{Each, Ordered, ordered, each-other}
+use Rattle.rules.proofs.Again.{first-is as first-number-is}
 use Rattle.deciding.specs.Limits.{limitAt, waiting}
 use Rattle.reasons.specs.Why.{alone, blocked, against, stand, weigh, howMany, leaving, times, refusedBy, reasons}
 use Rattle.reasons.proofs.Bits.{ones-weigh, firstNamed, first-weigh}

@@ -7,6 +7,7 @@ use native.Mathlib.Omega.{arith}
 use native.Mathlib.Nat.{pow-suc}
 use lib.ListN.{length, getD}
 use lib.Count.{ones, ones-step, trailingZeros, under}
+use Rattle.rules.proofs.Among.{All}
 use Rattle.reasons.specs.Why.{bit, bitAt, weigh, howMany}
 
 -- the lowest bit, and the rest
@@ -33,6 +34,16 @@ abbrev pub firstNamed : List ℕ → List Bool → ℕ
 firstNamed [] bs = 0
 firstNamed (n ∷ ns) [] = 0
 firstNamed (n ∷ ns) (b ∷ bs) = cond b n (firstNamed ns bs)
+
+-- it has what 0 and every name have
+pub first-named-is : (P : ℕ → Type 0) (ns : List ℕ) (bs : List Bool) → P 0 → All P ns → P (firstNamed ns bs)
+first-named-is P [] bs z h = z
+first-named-is P (n ∷ ns) [] z h = z
+first-named-is P (n ∷ ns) (b ∷ bs) z h = go b (first-named-is P ns bs z (h .1))
+  where
+    go : (x : Bool) → P (firstNamed ns bs) → P (cond x n (firstNamed ns bs))
+    go true rest = h .0
+    go false rest = rest
 
 -- the trailing zeros find it
 pub first-weigh : (k : ℕ) (ns : List ℕ) (bs : List Bool) → length ns ≡ length bs → length bs ≤ k → getD ns (trailingZeros k (weigh bs)) 0 ≡ firstNamed ns bs

@@ -14,16 +14,18 @@ use Rattle.rules.specs.Calls.{ask, Call, timed, Entry, entry, answer}
 use Rattle.rules.specs.Tables.{highestTime, inHour, fromNewest, freeIn, Kind, refusals, among, limiting}
 use Rattle.rules.specs.Record.{lastTime, permits, backOffEnd, standing, mood}
 use Rattle.rules.specs.Rules.{Limit, limits, blocks, blockedBy, firstBlock, stands, refusal, runs, verdict, ruling, refused}
-use Rattle.rules.specs.State.{State, Facts}
+use Rattle.rules.specs.State.{State}
 use Rattle.rules.specs.Told.{tells, ruled, told}
-use Rattle.rules.specs.Demand3.{Each, Again}
+use Rattle.rules.specs.Demand3.{Again}
 use Rattle.rules.proofs.Among.{among-all, not-among}
 use Rattle.rules.proofs.Checks.{refusal-low, in-range, on-time, fits, passes}
 use Rattle.rules.proofs.Groups.{four-path}
 use Rattle.rules.proofs.Newest.{Rising, rising-more, within-late, blocks-full}
 use Rattle.rules.proofs.Hour.{rolling-hour}
 use Rattle.rules.proofs.Leaving.{full-leaves}
-use Rattle.rules.proofs.Demand3.{Starts, Rises, rises, first-is, onward-append}
+use Rattle.rules.proofs.Rows.{Each, Ordered, ordered, each-other}
+use Rattle.rules.proofs.Given.{Rises}
+use Rattle.rules.proofs.Demand3.{Starts, rises, onward-append}
 
 -- ---- A limit, by how many are in the hour
 
@@ -40,18 +42,14 @@ few-frees w t r h = rw (lt-leb (r .most) (inHour t (w .lists (r .kind))) h) (go 
     go true false = refl
     go false y = refl
 
--- limits in the order of their numbers, all above 0
-abbrev pub Ordered : List Limit → Type 0
-Ordered [] = Unit {0}
-Ordered (r ∷ rs) = (0 < r .number) × (Each (λ x. r .number < x .number) rs × Ordered rs)
-
-pub ordered : (f : Facts) (q : ℕ) → Ordered (limits f q)
-unfolding limits
-ordered f q = (omega arith, (omega arith, (omega arith, (omega arith, (omega arith, (omega arith, omega arith))))))
-
-pub each-other : (n : ℕ) (rs : List Limit) → Each (λ x. n < x .number) rs → Each (λ x. x .number ≢ n) rs
-each-other n [] h = tt
-each-other n (r ∷ rs) h = ((λ e. omega (arith, h .0, e)), each-other n rs (h .1))
+-- the first that blocks: its number has what 0 and every row's number have
+pub first-is : (P : ℕ → Type 0) (w : State) (t : ℕ) (rs : List Limit) → P 0 → Each (λ r. P (r .number)) rs → P (firstBlock w t rs .number)
+first-is P w t [] z h = z
+first-is P w t (r ∷ rs) z h = go (blocks w t r) (first-is P w t rs z (h .1))
+  where
+    go : (b : Bool) → P (firstBlock w t rs .number) → P ((cond b (blockedBy w t r) (firstBlock w t rs)) .number)
+    go true x = h .0
+    go false x = x
 
 -- ---- From t to u, with the same lists
 

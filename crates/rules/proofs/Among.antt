@@ -13,6 +13,10 @@ abbrev pub All : (ℕ → Type 0) → List ℕ → Type 0
 All P [] = Unit {0}
 All P (x ∷ l) = P x × All P l
 
+pub all-map : {P Q : ℕ → Type 0} (l : List ℕ) → ((x : ℕ) → P x → Q x) → All P l → All Q l
+all-map [] f h = tt
+all-map (x ∷ l) f h = (f x (h .0), all-map l f (h .1))
+
 pub among-all : (P : ℕ → Type 0) (n : ℕ) (l : List ℕ) → All P l → among n l ≡ true → P n
 among-all P n [] h e = absurd (false≢true e)
 among-all P n (x ∷ l) h e = go (eqb n x) refl e (among-all P n l (h .1))

@@ -5,13 +5,14 @@ use mathlib.Core.Bool.{Bool, true, false, cond, _&&_, false≢true}
 use mathlib.Core.List.{List, [], _++_, append-nil}
 use mathlib.Core.Logic.{_≢_}
 use lib.Dec.{leb, eqb}
-use borrow.Author.Tests.{leb-true, le-leb, eqb-false, eqb-true, ne-eqb}
+use borrow.Author.Tests.{leb-true, le-leb, eqb-false, eqb-true, eq-eqb, ne-eqb}
 use native.Mathlib.Omega.{arith}
 use Rattle.rules.specs.declared.Answer.{Answer}
-use Rattle.rules.specs.Calls.{Event, ask, outcome, dropped, tick, silent, rejected, nfm, nfm-start, intervals, query, bad, Call, timed, typed, answer}
+use Rattle.rules.specs.Calls.{Outcome, Event, ask, outcome, dropped, tick, granted, silent, rejected, nfm, nfm-start, intervals, query, bad, Call, timed, typed, answer}
 use Rattle.rules.specs.Tables.{highestTime, Kind, among, refusals, action, scheduled}
 use Rattle.rules.specs.Rules.{check, inRange, timely, stands, refusal, wait, failed, verdict, ruling, refused, changed, enters, adds, learn}
 use Rattle.rules.specs.State.{State, Facts}
+use Rattle.rules.specs.Record.{toBackOff}
 use Rattle.rules.proofs.Among.{among-all}
 
 pub and-left : (x y : Bool) → (x && y) ≡ true → x ≡ true
@@ -132,43 +133,40 @@ refused-nothing w c a e = go (refused a) e
     go true p = λ i. record { facts = w .facts; lists = λ k. (ap (λ (l : List ℕ). w .lists k ++ l) (refused-adds k c a e) ∙ append-nil (w .lists k)) i }
     go false p = absurd (false≢true p)
 
--- ---- 20 carries the wait, and is given while NFM is 1
+-- ---- 20 is given just where an outcome backs off, and carries the wait
+
+-- the answer a to an outcome of service s; b is whether it asks to back off
+pub record Fails (f : Facts) (s : ℕ) (b : Bool) (a : Answer) : Type 0 where
+  pub backed : eqb (a .number) 20 ≡ (b && eqb (f .mode .nfm) 1)
+  pub waited : (b && eqb (f .mode .nfm) 1) ≡ true → a .second ≡ wait f s
+
+failed-fails : (f : Facts) (s n : ℕ) → Fails f s (eqb n 20) (failed f s n)
+unfolding failed
+failed-fails f s n = go (eqb n 20) (eqb (f .mode .nfm) 1) refl refl
+  where
+    go : (x y : Bool) → eqb n 20 ≡ x → eqb (f .mode .nfm) 1 ≡ y → Fails f s (eqb n 20) (failed f s n)
+    go true true p q = record { backed = rw (p, q); waited = λ e. rw (p, q) }
+    go true false p q = record { backed = rw (p, q); waited = λ e. absurd (false≢true (rw (p, q) at e)) }
+    go false y p q = record { backed = rw p p; waited = λ e. absurd (false≢true (rw p at e)) }
+
+backs-off : (f : Facts) (s n : ℕ) → failed f s n .number ≡ 20 → (eqb n 20 && eqb (f .mode .nfm) 1) ≡ true
+backs-off f s n e = sym (failed-fails f s n .backed) ∙ eq-eqb (failed f s n .number) 20 e
 
 pub failed-on : (f : Facts) (s n : ℕ) → failed f s n .number ≡ 20 → eqb (f .mode .nfm) 1 ≡ true
-unfolding failed
-failed-on f s n e = go (eqb n 20) (eqb (f .mode .nfm) 1) refl e
-  where
-    go : (x y : Bool) → eqb n 20 ≡ x → (cond x (cond y (answer 20 (wait f s)) (answer 23 0)) (answer n 0)) .number ≡ 20 → y ≡ true
-    go true true p e = refl
-    go true false p e = absurd (omega arith)
-    go false y p e = absurd (eqb-false n 20 p e)
+failed-on f s n e = and-right (eqb n 20) _ (backs-off f s n e)
 
 pub failed-wait : (f : Facts) (s n : ℕ) → failed f s n .number ≡ 20 → failed f s n .second ≡ wait f s
-unfolding failed
-failed-wait f s n e = go (eqb n 20) (eqb (f .mode .nfm) 1) refl e
-  where
-    go : (x y : Bool) → eqb n 20 ≡ x → (cond x (cond y (answer 20 (wait f s)) (answer 23 0)) (answer n 0)) .number ≡ 20
-        → (cond x (cond y (answer 20 (wait f s)) (answer 23 0)) (answer n 0)) .second ≡ wait f s
-    go true true p e = refl
-    go true false p e = absurd (omega arith)
-    go false y p e = absurd (eqb-false n 20 p e)
+failed-wait f s n e = failed-fails f s n .waited (backs-off f s n e)
 
--- where the verdict on a call has a property at number 20, so has the ruling, since no refusal is 20
-ruling-20 : (P : Answer → Type 0) (w : State) (c : Call) → (verdict w c .number ≡ 20 → P (verdict w c)) → ruling w c .number ≡ 20 → P (ruling w c)
+-- a call that passes the checks is answered by the verdict on it
+pub passed-verdict : (w : State) (c : Call) → refusal (w .facts) c ≡ 0 → ruling w c ≡ verdict w c
 unfolding ruling
-ruling-20 P w c h e = go (eqb (refusal (w .facts) c) 0) e
-  where
-    go : (b : Bool) → (cond b (verdict w c) (answer (refusal (w .facts) c) 0)) .number ≡ 20 → P (cond b (verdict w c) (answer (refusal (w .facts) c) 0))
-    go true e = h e
-    go false e = absurd (omega (arith, refusal-low (w .facts) c))
+passed-verdict w c z = rw z
 
-module _ (w : State) (t s : ℕ) where
-  pub silent-wait : ruling w (timed t (outcome s silent)) .number ≡ 20 → ruling w (timed t (outcome s silent)) .second ≡ wait (w .facts) s
-  unfolding verdict
-  silent-wait = ruling-20 (λ a. a .second ≡ wait (w .facts) s) w (timed t (outcome s silent)) (failed-wait (w .facts) s 20)
-
-  pub rejected-wait : (cause second : ℕ) → ruling w (timed t (outcome s (rejected cause second))) .number ≡ 20
-      → ruling w (timed t (outcome s (rejected cause second))) .second ≡ wait (w .facts) s
-  unfolding verdict
-  rejected-wait cause second =
-      ruling-20 (λ a. a .second ≡ wait (w .facts) s) w (timed t (outcome s (rejected cause second))) (failed-wait (w .facts) s (action s cause second))
+pub outcome-fails : (w : State) (t s : ℕ) (o : Outcome) → refusal (w .facts) (timed t (outcome s o)) ≡ 0
+    → Fails (w .facts) s (toBackOff s o) (ruling w (timed t (outcome s o)))
+unfolding verdict
+outcome-fails w t s granted z = rw (passed-verdict w (timed t (outcome s granted)) z) (record { backed = refl; waited = λ e. absurd (false≢true e) })
+outcome-fails w t s silent z = rw (passed-verdict w (timed t (outcome s silent)) z) (failed-fails (w .facts) s 20)
+outcome-fails w t s (rejected cause second) z =
+    rw (passed-verdict w (timed t (outcome s (rejected cause second))) z) (failed-fails (w .facts) s (action s cause second))

@@ -6,6 +6,12 @@ pub mod RecordTells
 pub mod Newest
 pub mod Hour
 pub mod Leaving
+pub mod Rows
+pub mod Limited
+pub mod Accepting
+pub mod Given
+pub mod Direct
+pub mod Idle
 pub mod Demand3
 pub mod Again
 pub mod Row

@@ -9,8 +9,9 @@ use lib.Dec.{ltb, leb, eqb}
 use borrow.Author.Tests.{ltb-true, leb-true, lt-ltb, le-leb, eqb-true}
 use native.Mathlib.Omega.{arith}
 use Rattle.rules.specs.declared.Answer.{Answer}
-use Rattle.rules.specs.Calls.{Event, ask, outcome, granted, silent, rejected, dropped, tick, Line, nfm, nfm-start, intervals, query, bad, Call, timed, typed, answer}
+use Rattle.rules.specs.Calls.{ask, outcome, granted, silent, rejected, dropped, tick, nfm, nfm-start, intervals, query, bad, Call, timed, typed, answer}
 use Rattle.rules.specs.Tables.{within, inHour, fromNewest, ascending, Kind}
+use Rattle.rules.specs.Record.{timeOf}
 use Rattle.rules.specs.Rules.{Limit, limits, blocks, firstBlock, refusal, verdict, ruling, refused, moved, acted, switched, obeyed, changed, enters, adds, learn}
 use Rattle.rules.specs.State.{State, Facts}
 use Rattle.rules.specs.Rules.{known, answers, newest, short, step, held, heldAnswers}
@@ -126,7 +127,7 @@ Small (r ∷ rs) = (r .most ≤ 255) × Small rs
 
 pub limits-small : (f : Facts) (q : ℕ) → Bytes (f .opening) → Small (limits f q)
 unfolding limits
-limits-small f q b = (b .N1, (b .F1, (b .F2, (b .F3, (b .F4, (b .A1, (b .S1, tt)))))))
+limits-small f q b = omega arith
 
 -- ---- A limit that blocks applies, is above 0, and so many are in the hour and so on its list
 
@@ -202,20 +203,18 @@ learn-same w c a i = record {
 
 -- ---- A sound state stays sound
 
-pub acted-keeps : (t : ℕ) (e : Event) (a : Answer) (f : Facts) → (acted t e a f .opening ≡ f .opening) × (acted t e a f .last ≡ f .last)
-unfolding acted
-acted-keeps t (ask _) a f = (refl, refl)
-acted-keeps t (outcome _ _) a f = (refl, refl)
-acted-keeps t dropped a f = (refl, refl)
-acted-keeps t tick a f = (refl, refl)
-
-pub obeyed-keeps : (l : Line) (f : Facts) → (obeyed l f .opening ≡ f .opening) × (obeyed l f .last ≡ f .last)
-unfolding obeyed switched
-obeyed-keeps (nfm _) f = (refl, refl)
-obeyed-keeps (nfm-start _ _) f = (refl, refl)
-obeyed-keeps (intervals _) f = (refl, refl)
-obeyed-keeps query f = (refl, refl)
-obeyed-keeps bad f = (refl, refl)
+-- a call leaves what the opening settled, and the last time becomes its own
+pub changed-keeps : (c : Call) (a : Answer) (f : Facts) → (changed c a f .opening ≡ f .opening) × (changed c a f .last ≡ timeOf c (f .last))
+unfolding changed acted moved obeyed switched
+changed-keeps (timed t (ask _)) a f = (refl, refl)
+changed-keeps (timed t (outcome _ _)) a f = (refl, refl)
+changed-keeps (timed t dropped) a f = (refl, refl)
+changed-keeps (timed t tick) a f = (refl, refl)
+changed-keeps (typed (nfm _)) a f = (refl, refl)
+changed-keeps (typed (nfm-start _ _)) a f = (refl, refl)
+changed-keeps (typed (intervals _)) a f = (refl, refl)
+changed-keeps (typed query) a f = (refl, refl)
+changed-keeps (typed bad) a f = (refl, refl)
 
 rising-added : (o b t : ℕ) (l : List ℕ) (x : Bool) → Rising o l b → b ≤ t → Rising o (l ++ cond x (t ∷ []) []) t
 rising-added o b t l true h g = rising-snoc o l b t h g
@@ -223,15 +222,15 @@ rising-added o b t l false h g = rw append-nil (rising-more o l b t h g)
 
 module _ (w : State) (s : Sound w) (a : Answer) where
   sound-changed : (c : Call) → refusal (w .facts) c ≡ 0 → Sound (record { facts = changed c a (w .facts); lists = λ k. w .lists k ++ adds k c a })
-  unfolding changed moved adds
+  unfolding adds
   sound-changed (timed t e) p =
-      let keeps = acted-keeps t e a (moved t (w .facts)) in
+      let keeps = changed-keeps (timed t e) a (w .facts) in
       record {
         bytes = rw (keeps .0) (s .bytes);
         rising = λ k. rw (keeps .0, keeps .1) (rising-added _ _ t (w .lists k) (enters e (a .number) k) (s .rising k) (on-time (w .facts) t e p));
       }
   sound-changed (typed l) p =
-      let keeps = obeyed-keeps l (w .facts) in
+      let keeps = changed-keeps (typed l) a (w .facts) in
       record { bytes = rw (keeps .0) (s .bytes); rising = λ k. rw (keeps .0, keeps .1, append-nil) (s .rising k) }
 
   sound-answered : (c : Call) → (refused a ≡ false → refusal (w .facts) c ≡ 0) → Sound (learn w c a)

@@ -5,18 +5,17 @@ use mathlib.Core.Bool.{Bool, true, false, cond, _&&_}
 use mathlib.Core.List.{List, [], _∷_, _++_, append-nil}
 use lib.Dec.{eqb}
 use lib.ListN.{getD}
-use borrow.Author.Tests.{eqb-true}
 use native.Mathlib.Nat.{sub-self}
 use native.Mathlib.Omega.{arith}
 use Rattle.rules.specs.declared.Answer.{Answer}
-use Rattle.rules.specs.Calls.{Opening, Counter, Event, ask, outcome, granted, silent, rejected, dropped, tick, Line, nfm, nfm-start, intervals, query, bad, Call, timed, typed, Entry, entry}
+use Rattle.rules.specs.Calls.{Opening, Counter, Outcome, Event, ask, outcome, granted, silent, rejected, dropped, tick, Line, nfm, nfm-start, intervals, query, bad, Call, timed, typed, Entry, entry}
 use Rattle.rules.specs.Tables.{Kind, waitFor, moodOn, four, six, ofSix, rateOf}
-use Rattle.rules.specs.Record.{lastTime, nfmNow, startNow, intervalsNow, permitIn, permits, inARow, failures, backOffEnd, standsAsked, standing, mood, leaked, counter}
+use Rattle.rules.specs.Record.{lastTime, nfmNow, startNow, intervalsNow, permitIn, permits, toBackOff, inARow, failures, backOffEnd, standsAsked, standing, mood, leaked, counter}
 use Rattle.rules.specs.Rules.{refusal, refused, wait, points, moved, onGranted, onFailed, onOutcome, acted, switched, obeyed, changed, enters, adds, learn, known}
 use Rattle.rules.specs.State.{State, Facts, Mode, withServices, idle}
 use Rattle.rules.specs.Rules.{answers, counted}
 use Rattle.rules.specs.Told.{tells, ruled, entered, onward, ruledAll, told, AsTold}
-use Rattle.rules.proofs.Checks.{accepted, on-time, refused-adds, silent-wait, rejected-wait}
+use Rattle.rules.proofs.Checks.{accepted, on-time, refused-adds, Fails, outcome-fails}
 use Rattle.rules.proofs.Groups.{of-four, of-six, four-cond, six-path, set-four, failures-more, ends-more, failures-cleared, asked-four, counted-six}
 use Rattle.rules.proofs.Leaks.{pointsTo, one-by-one}
 
@@ -70,10 +69,10 @@ module _ (g : State) (past : List Entry) where
         (set-four (λ s. 0) (λ s. backOffEnd g s past) (λ n. 0) u)
         (set-four (λ s. 0) (λ s. standing g s past) (λ n. cond (eqb u 2) 2 0) u)
 
-    -- silence and rejection, whose answer 20 carries the wait; d is service 2's mood
-    module _ (u : ℕ) (waited : eqb (a .number) 20 ≡ true → a .second ≡ wait (tells g past .facts) u) where
+    -- silence and rejection, answered 20 just where they back off, and then with the wait; d is service 2's mood
+    module _ (u : ℕ) (b : Bool) (backed : eqb (a .number) 20 ≡ b) (waited : b ≡ true → a .second ≡ wait (tells g past .facts) u) where
       again : ℕ → Bool
-      again s = eqb (a .number) 20 && eqb u s
+      again s = b && eqb u s
 
       row : ℕ → ℕ
       row s = cond (again s) (suc (inARow g s past)) (inARow g s past)
@@ -84,19 +83,18 @@ module _ (g : State) (past : List Entry) where
           (four (λ s. cond (eqb u s) 0 (standing g s past))) (cond (eqb u 2) d (mood g past))
       unfolding moved tells failures left old o mode onFailed wait again row
       failed-tells d =
-          facts-path o mode t (cond (eqb u 2) d (mood g past)) (drained-all t late)
-          (failures-more (eqb (a .number) 20) u (λ s. inARow g s past))
-          (ends-more (eqb (a .number) 20) u (λ s. inARow g s past) (λ s. backOffEnd g s past) (waitFor (o .imsi) (intervalsNow g past)) t (a .second) waited)
-          (set-four (λ s. 0) (λ s. standing g s past) (λ n. 0) u)
+          rw backed
+          (facts-path o mode t (cond (eqb u 2) d (mood g past)) (drained-all t late)
+          (failures-more b u (λ s. inARow g s past))
+          (ends-more b u (λ s. inARow g s past) (λ s. backOffEnd g s past) (waitFor (o .imsi) (intervalsNow g past)) t (a .second) waited)
+          (set-four (λ s. 0) (λ s. standing g s past) (λ n. 0) u))
 
-      silent-tells : acted t (outcome u silent) a (moved t (tells g past .facts)) ≡ tells g (entry (timed t (outcome u silent)) a ∷ past) .facts
-      unfolding acted onOutcome moved tells lastTime nfmNow startNow intervalsNow inARow failures backOffEnd standing mood counter left old o mode again row
-      silent-tells = failed-tells 1
-
-      rejected-tells : (cause second : ℕ) → acted t (outcome u (rejected cause second)) a (moved t (tells g past .facts))
-          ≡ tells g (entry (timed t (outcome u (rejected cause second))) a ∷ past) .facts
-      unfolding acted onOutcome moved tells lastTime nfmNow startNow intervalsNow inARow failures backOffEnd standing mood counter left old o mode again row
-      rejected-tells cause second = failed-tells (moodOn cause)
+    outcome-tells : (u : ℕ) (x : Outcome) → Fails (tells g past .facts) u (toBackOff u x) a
+        → acted t (outcome u x) a (moved t (tells g past .facts)) ≡ tells g (entry (timed t (outcome u x)) a ∷ past) .facts
+    unfolding acted onOutcome moved tells lastTime nfmNow startNow intervalsNow inARow failures backOffEnd standing mood counter left old o mode again row
+    outcome-tells u granted h = granted-tells u
+    outcome-tells u silent h = failed-tells u _ (h .backed) (h .waited) 1
+    outcome-tells u (rejected cause second) h = failed-tells u _ (h .backed) (h .waited) (moodOn cause)
 
     dropped-tells : acted t dropped a (moved t (tells g past .facts)) ≡ tells g (entry (timed t dropped) a ∷ past) .facts
     unfolding acted onOutcome moved tells lastTime nfmNow startNow intervalsNow inARow failures backOffEnd standing mood counter left old o mode
@@ -137,17 +135,12 @@ module _ (g : State) (past : List Entry) where
 
   -- ---- The call's own answer
 
-  waited : (u : ℕ) (a : Answer) → (a .number ≡ 20 → a .second ≡ wait (tells g past .facts) u) → eqb (a .number) 20 ≡ true → a .second ≡ wait (tells g past .facts) u
-  waited u a h e = h (eqb-true (a .number) 20 e)
-
-  event-tells : (t : ℕ) (e : Event) → old ≤ t
+  event-tells : (t : ℕ) (e : Event) → old ≤ t → refusal (tells g past .facts) (timed t e) ≡ 0
       → acted t e (ruled g past (timed t e)) (moved t (tells g past .facts)) ≡ tells g (entry (timed t e) (ruled g past (timed t e)) ∷ past) .facts
-  event-tells t (ask q) h = ask-tells t _ h q
-  event-tells t (outcome u granted) h = granted-tells t _ h u
-  event-tells t (outcome u silent) h = silent-tells t _ h u (waited u _ (silent-wait (tells g past) t u))
-  event-tells t (outcome u (rejected cause second)) h = rejected-tells t _ h u (waited u _ (rejected-wait (tells g past) t u cause second)) cause second
-  event-tells t dropped h = dropped-tells t _ h
-  event-tells t tick h = tick-tells t _ h
+  event-tells t (ask q) h z = ask-tells t _ h q
+  event-tells t (outcome u x) h z = outcome-tells t _ h u x (outcome-fails (tells g past) t u x z)
+  event-tells t dropped h z = dropped-tells t _ h
+  event-tells t tick h z = tick-tells t _ h
 
   late : (t : ℕ) (e : Event) → refusal (tells g past .facts) (timed t e) ≡ 0 → old ≤ t
   unfolding tells old
@@ -155,7 +148,7 @@ module _ (g : State) (past : List Entry) where
 
   call-tells : (c : Call) → refused (ruled g past c) ≡ false → changed c (ruled g past c) (tells g past .facts) ≡ tells g (entry c (ruled g past c) ∷ past) .facts
   unfolding changed
-  call-tells (timed t e) h = event-tells t e (late t e (accepted (tells g past) (timed t e) h))
+  call-tells (timed t e) h = let z = accepted (tells g past) (timed t e) h in event-tells t e (late t e z) z
   call-tells (typed l) h = line-tells (ruled g past (typed l)) l
 
   -- what a call adds to list k

@@ -3,6 +3,7 @@ pub mod Tables
 pub mod State
 pub mod Leaves
 pub mod Record
+pub mod Direct
 pub mod Rules
 pub mod Told
 pub mod Demand3

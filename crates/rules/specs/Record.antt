@@ -2,13 +2,13 @@
 -- its answer, the newest first; each thing that it tells is read straight off it, by itself, and
 -- before any call off the start: a new buffer, or what a good one holds. Assumes nothing.
 use Prim.Native.Nat.{ℕ, zero, suc, _+_, _-_, _*_, _%_, min}
-use mathlib.Core.Bool.{Bool, false, cond, _&&_}
+use mathlib.Core.Bool.{Bool, true, false, cond, _&&_}
 use mathlib.Core.List.{List, [], _∷_, _++_}
 use lib.ListN.{getD}
 use lib.Dec.{ltb, leb, eqb}
-use Rattle.rules.specs.Calls.{Counter, ask, outcome, granted, silent, rejected, dropped, tick, nfm, nfm-start, intervals, query, bad, Call, timed, typed, Entry}
+use Rattle.rules.specs.Calls.{Counter, Outcome, ask, outcome, granted, silent, rejected, dropped, tick, nfm, nfm-start, intervals, query, bad, Call, timed, typed, Entry}
 use Rattle.rules.specs.State.{State}
-use Rattle.rules.specs.Tables.{Kind, goes, moodOn, oneMore, waitFor, rateOf, raises, ofSix}
+use Rattle.rules.specs.Tables.{Kind, goes, action, moodOn, oneMore, waitFor, rateOf, raises, ofSix}
 
 -- ---- The last time: that of the newest timed call, and before any the start's
 
@@ -75,7 +75,7 @@ unfoldable pub permits : State → Kind → List Entry → List ℕ
 permits g k [] = g .lists k
 permits g k (x ∷ past) = permits g k past ++ permitIn k (x .call) (x .answer .number)
 
--- ---- Failures in a row and back-off end of service s
+-- ---- Failures in a row and back-off end of service s, by what happened and not by the answers
 
 -- a grant of the service, and AT+NFM=0, set both to 0
 abbrev pub clears : ℕ → Call → Bool
@@ -91,20 +91,25 @@ clears s (typed (intervals l)) = false
 clears s (typed query) = false
 clears s (typed bad) = false
 
--- silence or a rejection of the service that was answered 20: it backs off
-abbrev pub backsOff : ℕ → Call → ℕ → Bool
-backsOff s (timed t (ask q)) n = false
-backsOff s (timed t (outcome u granted)) n = false
-backsOff s (timed t (outcome u silent)) n = eqb n 20 && eqb u s
-backsOff s (timed t (outcome u (rejected cause second))) n = eqb n 20 && eqb u s
-backsOff s (timed t dropped) n = false
-backsOff s (timed t tick) n = false
-backsOff s (typed l) n = false
+-- what asks to back off: silence, and a rejection whose cause does
+abbrev pub toBackOff : ℕ → Outcome → Bool
+toBackOff s granted = false
+toBackOff s silent = true
+toBackOff s (rejected cause second) = eqb (action s cause second) 20
+
+-- an accepted call makes service s back off, where NFM was n before it: with NFM 0 nothing is timed
+-- or counted
+abbrev pub backsOff : ℕ → (n : ℕ) → Call → Bool
+backsOff s n (timed t (ask q)) = false
+backsOff s n (timed t (outcome u o)) = (toBackOff u o && eqb n 1) && eqb u s
+backsOff s n (timed t dropped) = false
+backsOff s n (timed t tick) = false
+backsOff s n (typed l) = false
 
 -- how often it has backed off since it was last cleared, the start's failures among it
 unfoldable pub inARow : State → ℕ → List Entry → ℕ
 inARow g s [] = getD (g .facts .services .failures) s 0
-inARow g s (x ∷ past) = cond (clears s (x .call)) 0 (cond (backsOff s (x .call) (x .answer .number)) (suc (inARow g s past)) (inARow g s past))
+inARow g s (x ∷ past) = cond (clears s (x .call)) 0 (cond (backsOff s (nfmNow g past) (x .call)) (suc (inARow g s past)) (inARow g s past))
 
 -- to 255 at most
 unfoldable pub failures : State → ℕ → List Entry → ℕ
@@ -116,7 +121,7 @@ unfoldable pub backOffEnd : State → ℕ → List Entry → ℕ
 backOffEnd g s [] = getD (g .facts .services .ends) s 0
 backOffEnd g s (x ∷ past) =
     cond (clears s (x .call)) 0
-    (cond (backsOff s (x .call) (x .answer .number))
+    (cond (backsOff s (nfmNow g past) (x .call))
     (timeOf (x .call) 0 + waitFor (g .facts .opening .imsi) (intervalsNow g past) (failures g s (x ∷ past)))
     (backOffEnd g s past))
 

@@ -57,6 +57,15 @@ limiting = 11 ∷ 13 ∷ 14 ∷ 15 ∷ 16 ∷ 17 ∷ 18 ∷ []
 abbrev pub rules : List ℕ
 rules = 10 ∷ limiting
 
+-- how many of a table stand before c
+abbrev pub placeIn : List ℕ → ℕ → ℕ
+placeIn [] c = 0
+placeIn (x ∷ l) c = cond (eqb c x) 0 (suc (placeIn l c))
+
+-- how many limits are looked at before limit n
+abbrev pub rank : ℕ → ℕ
+rank n = placeIn limiting n
+
 -- the blocks by N1 and F1-F4: n raises counter n - 11 of the six
 abbrev pub counting : List ℕ
 counting = 11 ∷ 13 ∷ 14 ∷ 15 ∷ 16 ∷ []
