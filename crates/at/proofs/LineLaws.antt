@@ -1,12 +1,15 @@
--- A word at a place of a line, and a flag, step by step. Assumes nothing.
+-- A word at a place of a line, and a flag, step by step, and what they say of it. Assumes nothing.
 use Prim.Native.Nat.{ℕ, _+_, _-_, _≤_, _<_}
-use mathlib.Core.Path.{_≡_}
-use mathlib.Core.Bool.{true, false}
-use mathlib.Core.List.{List}
+use mathlib.Core.Path.{_≡_, refl, ap}
+use mathlib.Core.Bool.{Bool, true, false}
+use mathlib.Core.List.{List, [], _∷_, _++_}
 use native.Mathlib.Numerals.{add-one}
-use lib.ListN.{length, getD, drop, drop-of-length-le, length-drop}
+use native.Mathlib.Omega.{arith}
+use lib.Dec.{eqb}
+use lib.ListN.{length, getD, drop, drop-of-length-le, length-drop, length-append}
 use lib.Seq.{drop-cons}
-use borrow.Author.Tests.{le-leb, lt-leb, eq-eqb, ne-eqb}
+use borrow.Author.Tests.{le-leb, lt-leb, eq-eqb, ne-eqb, eqb-true}
+use Rattle.text.proofs.Choice.{cond-by, absurd-bool}
 use Rattle.at.specs.Lines.{starts, ends, flagOf}
 
 module _ (w l : List ℕ) (j i : ℕ) where
@@ -58,3 +61,35 @@ module _ (l : List ℕ) (i : ℕ) where
     pub flag-2 : (getD l i 0 ≡ 48 → ⊥) → (getD l i 0 ≡ 49 → ⊥) → flagOf (drop i l) ≡ 2
     unfolding flagOf
     flag-2 n m = rw (drop-cons l i 0 h, ne-eqb _ _ n, ne-eqb _ _ m)
+
+-- ---- What a word or a flag says of the line that it stands in
+
+pub starts-word : (w l : List ℕ) → starts w l ≡ true → l ≡ w ++ drop (length w) l
+unfolding starts
+starts-word [] l e = refl
+starts-word (x ∷ w) [] e = absurd-bool e
+starts-word (x ∷ w) (y ∷ l) e =
+    let ih = starts-word w l in
+    cond-by (λ (r : Bool). r ≡ true → y ∷ l ≡ x ∷ (w ++ drop (length w) l)) (eqb y x)
+    {x = starts w l} {y = false}
+    (λ p q. let a = eqb-true y x p in let b = ih q in cc) (λ p q. absurd-bool q) e
+
+pub flag-word : (l : List ℕ) → flagOf l < 2 → l ≡ (48 + flagOf l) ∷ drop 1 l
+unfolding flagOf
+flag-word [] h = absurd (omega arith)
+flag-word (x ∷ l) h =
+    let P : ℕ → Type 0 = λ n. n < 2 → x ∷ l ≡ (48 + n) ∷ l in
+    cond-by P (eqb x 48) (λ p _. let e = eqb-true x 48 p in cc) (λ _.
+    cond-by P (eqb x 49) (λ p _. let e = eqb-true x 49 p in cc) (λ _ k. absurd (omega arith))) h
+
+-- there are as many bytes left as the word has
+pub starts-in : (w l : List ℕ) (i : ℕ) → starts w (drop i l) ≡ true → length w ≤ length l - i
+starts-in w l i e =
+    let h = simp (length-append, length-drop) at (ap length (starts-word w (drop i l) e)) in
+    omega arith
+
+-- a flag is a byte
+pub flag-in : (l : List ℕ) (i f : ℕ) → f ≡ flagOf (drop i l) → f ≤ 1 → i < length l
+flag-in l i f e h =
+    let k = simp length-drop at (ap length (flag-word (drop i l) (omega arith))) in
+    omega arith

@@ -7,8 +7,8 @@ use mathlib.Core.Logic.{_⊎_, inl, inr}
 use native.Mathlib.Omega.{arith}
 use lib.ListN.{length, length-append, drop, drop-of-length-le}
 use lib.Seq.{drop-drop}
-use lib.Dec.{ltb, leb, eqb, lit<}
-use borrow.Author.Tests.{le-leb, ltb-true, leb-true, eqb-true}
+use lib.Dec.{ltb, leb, lit<}
+use borrow.Author.Tests.{le-leb, ltb-true, leb-true}
 use Rattle.text.specs.Number.{digitOf, Part, got, none, digits, num}
 use Rattle.text.specs.Printed.{dec, printNum, After}
 use Rattle.text.proofs.Choice.{cond-by, absurd-bool}
@@ -19,6 +19,7 @@ use Rattle.rules.specs.Rules.{refusal}
 use Rattle.rules.specs.State.{Facts}
 use Rattle.at.specs.Lines.{starts, ends, at-nfm, at-nfmci, ask, cr, comma, flagOf, flags, ints, oneInt, intsLine, readLine}
 use Rattle.at.specs.Print.{printMore, printInts, printLine, Valid}
+use Rattle.at.proofs.LineLaws.{starts-word, flag-word}
 use Rattle.at.proofs.IntsLaws.{ints-last, ints-more}
 
 -- ---- The rules' test of intervals, in parts
@@ -56,28 +57,11 @@ from-scheduled xs e =
 
 -- ---- Words
 
-starts-word : (w l : List ℕ) → starts w l ≡ true → l ≡ w ++ drop (length w) l
-unfolding starts
-starts-word [] l e = refl
-starts-word (x ∷ w) [] e = absurd-bool e
-starts-word (x ∷ w) (y ∷ l) e =
-    let ih = starts-word w l in
-    cond-by (λ (r : Bool). r ≡ true → y ∷ l ≡ x ∷ (w ++ drop (length w) l)) (eqb y x) {x = starts w l} {y = false}
-    (λ p q. let a = eqb-true y x p in let b = ih q in cc) (λ p q. absurd-bool q) e
-
 ends-word : (w l : List ℕ) → ends w l ≡ true → l ≡ w
 unfolding ends
 ends-word w l e =
     cond-by (λ (r : Bool). r ≡ true → l ≡ w) (starts w l) {x = leb (length l) (length w)} {y = false}
     (λ p q. starts-word w l p ∙ (ap (λ (r : List ℕ). w ++ r) (drop-of-length-le l (leb-true _ _ q)) ∙ append-nil w)) (λ p q. absurd-bool q) e
-
-flag-word : (l : List ℕ) → flagOf l < 2 → l ≡ (48 + flagOf l) ∷ drop 1 l
-unfolding flagOf
-flag-word [] h = absurd (omega arith)
-flag-word (x ∷ l) h =
-    cond-by (λ (n : ℕ). n < 2 → x ∷ l ≡ (48 + n) ∷ l) (eqb x 48)
-    (λ p _. let e = eqb-true x 48 p in cc)
-    (λ _. cond-by (λ (n : ℕ). n < 2 → x ∷ l ≡ (48 + n) ∷ l) (eqb x 49) (λ p _. let e = eqb-true x 49 p in cc) (λ _ k. absurd (omega arith))) h
 
 -- ---- Whatever is read is printed
 

@@ -8,6 +8,10 @@ use lib.ListN.{drop, length}
 use lib.Dec.{leb, ltb, eqb}
 use Rattle.text.specs.Number.{Part, got, none, num}
 use Rattle.rules.specs.Calls.{Line, query, nfm, nfm-start, intervals, bad}
+use denote.Ref.{now}
+use Rattle.at.specs.declared.Name.{Name}
+use Rattle.at.specs.declared.Name.the-variants as N
+use Rattle.at.specs.declared.Reader.{Reader}
 
 -- l begins with the word w
 unfoldable pub starts : List ℕ → List ℕ → Bool
@@ -77,6 +81,28 @@ intsLine (x ∷ xs) = intervals (x ∷ xs)
 unfoldable pub readLine : List ℕ → Line
 readLine l = cond (starts at-nfm l) (flags (drop 7 l)) (cond (starts at-nfmci l) (intsLine (ints 10 (drop 9 l) 1 [])) bad)
 
--- the place after that of a byte; a place past the end stays
-abbrev pub placeAfter : List ℕ → ℕ → ℕ
-placeAfter l at = cond (ltb at (length l)) (at + 1) at
+-- ---- A line in two steps, as a reader takes it: its name, and the arguments behind it
+
+-- the name's bytes
+abbrev pub word : Name → List ℕ
+word N.Flags = at-nfm
+word N.Intervals = at-nfmci
+word N.Other = []
+
+-- the name that a line begins with
+unfoldable pub nameOf : List ℕ → Name
+nameOf l = cond (starts at-nfm l) N.Flags (cond (starts at-nfmci l) N.Intervals N.Other)
+
+-- what the arguments say, of the command with that name
+abbrev pub argumentsOf : Name → List ℕ → Line
+argumentsOf N.Flags l = flags l
+argumentsOf N.Intervals l = intsLine (ints 10 l 1 [])
+argumentsOf N.Other l = bad
+
+-- what a reader has before it: its line from its place on
+abbrev pub ahead : Reader → List ℕ
+ahead r = drop (r .at) (now (r .line))
+
+-- the reader moved on behind a name: the line is the same
+abbrev pub behind : Name → Reader → Reader
+behind n r = record { line = r .line; at = r .at + length (word n) }

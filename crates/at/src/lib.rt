@@ -1,13 +1,16 @@
-// AT lines: what a line says, as an order. `read` is for everyone else; the rest reads a line from a place on. Assumes nothing.
+// AT lines: what a line says, as an order. `read` is for everyone else: it has a reader, which keeps
+// the line and its place in it, read the name, move past it and read on. The reading itself is done
+// by functions on line and place. Assumes nothing.
 use text::Num;
 use text::decimal;
 ghost use mathlib.Core.Path.{_≡_};
-ghost use Prim.Native.Nat.{_<_, _≤_};
+ghost use Prim.Native.Nat.{_+_, _<_, _^_};
 ghost use mathlib.Core.List.{[]};
 ghost use lib.ListN.{length, drop};
-ghost use Rattle.text.specs.Number.{num, partOf, placeOf, valueOf};
 ghost use Rattle.at.specs.Order.{listed, orderOf, plainOrder};
-ghost use Rattle.at.specs.Lines.{starts as startsOf, ends as endsOf, flagOf, flags as flagsOf, ints, readLine, placeAfter};
+ghost use Rattle.at.specs.Lines.{starts as startsOf, ends as endsOf, flagOf};
+ghost use Rattle.at.specs.Lines.{flags as flagsOf, ints, readLine};
+ghost use Rattle.at.specs.Lines.{word, nameOf, argumentsOf, ahead, behind};
 
 // The order of a line; `Bad` is none.
 pub enum Kind {
@@ -18,10 +21,17 @@ pub enum Kind {
     Bad,
 }
 
+// The name that a line begins with; `Other` is none.
+enum Name {
+    Flags,
+    Intervals,
+    Other,
+}
+
 // Intervals: the first `count` of ten places.
-pub struct Listed {
-    pub count: usize,
-    pub list: [u32; 10],
+struct Listed {
+    count: usize,
+    list: [u32; 10],
 }
 
 // An order with its intervals, of which only `Intervals` has any.
@@ -96,7 +106,6 @@ fn plain(kind: Kind) -> Order
 
 // What follows AT+NFM=.
 fn flags(line: &[u8], at: usize) -> Order
-    requires { ⌜ at < 100 ⌝ }
     ensures { λ r. ⌜ r ≡ orderOf (flagsOf (drop at (now (line .entry)))) ⌝ }
 {
     if ends(line, at, b"?\r") {
@@ -133,7 +142,7 @@ fn none() -> Listed
 }
 
 // 1 to 10 intervals and the end of the line; a count of 0 where that is refused.
-pub fn intervals(line: &[u8], at: usize) -> Listed
+fn intervals(line: &[u8], at: usize) -> Listed
     ensures { λ r. ⌜ r ≡ listed (ints 10 (drop at (now (line .entry))) 1 []) ⌝ }
 {
     let mut list = [0u32; 10];
@@ -166,89 +175,110 @@ pub fn intervals(line: &[u8], at: usize) -> Listed
     none()
 }
 
-// What an AT line says, its CR included.
-pub fn read_line(line: &[u8]) -> Order
-    ensures { λ r. ⌜ r ≡ orderOf (readLine (now (line .entry))) ⌝ }
+// Which name stands at a place.
+fn name_at(line: &[u8], at: usize) -> Name
+    ensures { λ r. ⌜ r ≡ nameOf (drop at (now (line .entry))) ⌝ }
 {
-    if starts(line, 0, b"AT+NFM=") {
-        return flags(line, 7);
+    if starts(line, at, b"AT+NFM=") {
+        return Name::Flags;
     }
-    if starts(line, 0, b"AT+NFMCI=") {
-        let got = intervals(line, 9);
-        let count = got.count;
-        let list = got.list;
-        if count == 0 {
+    if starts(line, at, b"AT+NFMCI=") {
+        return Name::Intervals;
+    }
+    Name::Other
+}
+
+// The place behind a name that stands at a place.
+fn place_past(at: usize, name: Name) -> usize
+    requires { ⌜ at + length (word name) < 2 ^ 64 ⌝ }
+    ensures { λ r. ⌜ r ≡ at + length (word name) ⌝ }
+{
+    match name {
+        Name::Flags => {
+            return at + 7;
+        }
+        Name::Intervals => {
+            return at + 9;
+        }
+        Name::Other => {
+            return at;
+        }
+    }
+}
+
+// What the arguments from a place on say, of the command with that name.
+fn arguments_at(line: &[u8], at: usize, name: Name) -> Order
+    ensures { λ r. ⌜ r ≡ orderOf (argumentsOf name (drop at (now (line .entry)))) ⌝ }
+{
+    match name {
+        Name::Flags => {
+            return flags(line, at);
+        }
+        Name::Intervals => {
+            let got = intervals(line, at);
+            let count = got.count;
+            let list = got.list;
+            if count == 0 {
+                return plain(Kind::Bad);
+            }
+            return Order {
+                kind: Kind::Intervals,
+                count,
+                list,
+            };
+        }
+        Name::Other => {
             return plain(Kind::Bad);
         }
-        return Order {
-            kind: Kind::Intervals,
-            count,
-            list,
-        };
     }
-    plain(Kind::Bad)
 }
 
-// What the line says from a place on.
-pub fn read_rest(line: &[u8], at: usize) -> Order
-    ensures { λ r. ⌜ r ≡ orderOf (readLine (drop at (now (line .entry)))) ⌝ }
-{
-    if line.len() <= at {
-        return plain(Kind::Bad);
-    }
-    read_line(&line[at..])
-}
-
-// The place after a byte, which is the end where there is none.
-pub fn place_after(line: &[u8], at: usize) -> usize
-    ensures { λ r. ⌜ r ≡ placeAfter (now (line .entry)) at ⌝ }
-{
-    if at < line.len() { at + 1 } else { at }
-}
-
-// A line and a place in it, from which it is read.
-pub struct Reader<'a> {
-    pub line: &'a [u8],
-    pub at: usize,
+// A line and the place in it from which it is read on.
+struct Reader<'a> {
+    line: &'a [u8],
+    at: usize,
 }
 
 impl<'a> Reader<'a> {
     // A reader at the front of the line.
-    pub fn new(line: &'a [u8]) -> Reader<'a>
+    fn new(line: &'a [u8]) -> Reader<'a>
         ensures { λ r. ⌜ (r .line ≡ line .entry) × (r .at ≡ 0) ⌝ }
     {
         Reader { line, at: 0 }
     }
 
-    // What the line says from the reader's place on.
-    pub fn told(self) -> Order
-        ensures { λ s. ⌜ s ≡ orderOf (readLine (drop (self .entry .at) (now (self .entry .line)))) ⌝ }
+    // The name that stands at the reader's place.
+    fn name(self) -> Name
+        ensures { λ r. ⌜ r ≡ nameOf (ahead (self .entry)) ⌝ }
     {
-        read_rest(self.line, self.at)
+        name_at(self.line, self.at)
     }
 
-    // The decimal at the reader's place.
-    pub fn number(self, most: u64) -> Num
-        ensures { λ r. ⌜ (partOf (now (self .entry .line)) r ≡ num most (drop (self .entry .at) (now (self .entry .line)))) × (placeOf r ≤ length (now (self .entry .line))) × (valueOf r ≤ most) ⌝ }
+    // The reader behind the name that it has read at its place.
+    fn past(self, name: Name) -> Reader<'a>
+        requires { ⌜ name ≡ nameOf (ahead self) ⌝ }
+        ensures { λ r. ⌜ r ≡ behind name (self .entry) ⌝ }
     {
-        decimal(self.line, self.at, most)
-    }
-
-    // The reader moved on by a byte.
-    pub fn next(self) -> Reader<'a>
-        ensures { λ q. ⌜ (q .line ≡ self .entry .line) × (q .at ≡ placeAfter (now (self .entry .line)) (self .entry .at)) ⌝ }
-    {
-        let at = place_after(self.line, self.at);
+        let at = place_past(self.at, name);
         Reader {
             line: self.line,
             at,
         }
     }
+
+    // What the arguments from the reader's place on say, of the command with that name.
+    fn arguments(self, name: Name) -> Order
+        ensures { λ r. ⌜ r ≡ orderOf (argumentsOf name (ahead (self .entry))) ⌝ }
+    {
+        arguments_at(self.line, self.at, name)
+    }
 }
 
-// What an AT line says, for whoever has the line: a line is at most 96 bytes with its CR, and no longer one is taken.
+// What an AT line says, its CR included. A line is at most 96 bytes, and no longer one is taken.
 pub fn read(line: &[u8]) -> Order
     ensures { λ r. ⌜ r ≡ orderOf (readLine (now (line .entry))) ⌝ }
 {
-    Reader::new(line).told()
+    let reader = Reader::new(line);
+    let name = reader.name();
+    reader.past(name).arguments(name)
 }

@@ -1,5 +1,9 @@
 -- `at::flags` meets its contract. Assumes nothing.
+use Prim.Native.Nat.{_+_}
 use mathlib.Core.Path.{sym, ap, _∙_}
+use native.Mathlib.Omega.{arith}
+use Rattle.at.specs.Lines.{comma}
+use Rattle.at.proofs.LineLaws.{starts-in, flag-in}
 use Rattle.at.specs.Order.{orderOf}
 use Rattle.at.proofs.FlagsLaws.{flags-ask, flags-none, flags-nfm, flags-other, flags-none2, flags-start, flags-open}
 use borrow.Author.Needs.{needs}
@@ -32,7 +36,10 @@ returns-2 c =
     c .plain2 .ensures ∙ ap orderOf (sym (flags-none (a .line .now) (a .at) (sym (c .before .before .before .before .ends .ensures) ∙ c .before .before .before .if1 .left) _ (c .before .before .flag .ensures) (c .before .if2 .taken)))
 
 add-ends : tie.Need-add-ends
-add-ends c = search needs
+add-ends c =
+    let a = c .before .before .before .before .before .before .args in
+    let h = flag-in (a .line .now) (a .at) _ (c .before .flag .ensures) (c .if2 .left) in
+    omega arith
 
 slice-aggregate-ends-2 : tie.Need-slice-aggregate-ends-2
 slice-aggregate-ends-2 c = search needs
@@ -49,7 +56,11 @@ returns-3 c =
     c .plain3 .ensures ∙ ap orderOf (sym (flags-nfm (a .line .now) (a .at) (sym (c .before .before .before .before .before .before .before .ends .ensures) ∙ c .before .before .before .before .before .before .if1 .left) _ (c .before .before .before .before .before .flag .ensures) (c .before .before .before .before .if2 .left) (sym (c .before .before .ends2 .ensures) ∙ c .before .if3 .taken)))
 
 add-starts : tie.Need-add-starts
-add-starts c = search needs
+add-starts c =
+    let a = c .before .before .before .before .before .before .before .before .before .args in
+    let f = c .before .before .before in
+    let h = flag-in (a .line .now) (a .at) _ (f .before .flag .ensures) (f .if2 .left) in
+    omega arith
 
 slice-aggregate-starts : tie.Need-slice-aggregate-starts
 slice-aggregate-starts c = search needs
@@ -58,7 +69,12 @@ starts-requires : tie.Need-starts-requires
 starts-requires c κs = search needs
 
 add-flag : tie.Need-add-flag
-add-flag c = search needs
+add-flag c =
+    let f = c .before .before .before .before .before .before in
+    let a = f .before .before .before .before .before .before .args in
+    let here = sym (c .before .starts .ensures) ∙ c .if4 .taken in
+    let h = starts-in comma (a .line .now) (a .at + 1) here in
+    omega arith
 
 flag-requires-2 : tie.Need-flag-requires-2
 flag-requires-2 c κs = search needs
@@ -72,7 +88,11 @@ returns-4 c =
     c .plain4 .ensures ∙ ap orderOf (sym (flags-none2 (a .line .now) (a .at) (sym (c .before .before .before .before .before .before .before .before .before .before .before .before .ends .ensures) ∙ c .before .before .before .before .before .before .before .before .before .before .before .if1 .left) _ (c .before .before .before .before .before .before .before .before .before .before .flag .ensures) (c .before .before .before .before .before .before .before .before .before .if2 .left) (sym (c .before .before .before .before .before .before .before .ends2 .ensures) ∙ c .before .before .before .before .before .before .if3 .left) (sym (c .before .before .before .before .starts .ensures) ∙ c .before .before .before .if4 .taken) _ (c .before .before .flag2 .ensures) (c .before .if5 .taken)))
 
 add-ends-2 : tie.Need-add-ends-2
-add-ends-2 c = search needs
+add-ends-2 c =
+    let f = c .before .before .before .before .before .before .before in
+    let a = f .before .before .before .before .before .before .before .args in
+    let h = flag-in (a .line .now) (a .at + 2) _ (c .before .flag2 .ensures) (c .if5 .left) in
+    omega arith
 
 slice-aggregate-ends-3 : tie.Need-slice-aggregate-ends-3
 slice-aggregate-ends-3 c = search needs
