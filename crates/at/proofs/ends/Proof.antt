@@ -16,10 +16,16 @@ sub-if3 : tie.Need-sub-if3
 sub-if3 c = search needs
 
 returns-2 : tie.Need-returns-2
-returns-2 c = let a = c .before .before .before .before .before .before .args in sym (ends-here (a .word .now) (a .line .now) (a .at) (sym (c .before .before .before .starts .ensures) ∙ c .before .before .if1 .taken) (c .if3 .taken))
+returns-2 c =
+    let a = c .before .before .before .before .before .before .args in
+    let begins = sym (c .before .before .before .starts .ensures) ∙ c .before .before .if1 .taken in
+    sym (ends-here (a .word .now) (a .line .now) (a .at) begins (omega arith))
 
 returns-3 : tie.Need-returns-3
-returns-3 c = let a = c .before .before .before .before .before .before .args in sym (ends-more (a .word .now) (a .line .now) (a .at) (sym (c .before .before .before .starts .ensures) ∙ c .before .before .if1 .taken) (c .if3 .left))
+returns-3 c =
+    let a = c .before .before .before .before .before .before .args in
+    let begins = sym (c .before .before .before .starts .ensures) ∙ c .before .before .if1 .taken in
+    sym (ends-more (a .word .now) (a .line .now) (a .at) begins (omega arith))
 
 returns-4 : tie.Need-returns-4
 returns-4 c = let a = c .before .before .before .before .args in sym (ends-not (a .word .now) (a .line .now) (a .at) (sym (c .before .starts .ensures) ∙ c .if1 .left))

@@ -56,7 +56,11 @@ none-requires-2 : tie.Need-none-requires-2 Inv-loop μ-loop
 none-requires-2 c κs = search needs
 
 returns-2 : tie.Need-returns-2 Inv-loop μ-loop
-returns-2 c = c .none2 .ensures ∙ ap listed (sym (ints-low _ _ _ _ _ _ (read (c .before .before .before)) (c .before .if1 .taken)) ∙ whole-answer (c .before .before .before .before .before .before))
+returns-2 c =
+    let r = c .before .before .before in
+    let in-loop = r .before .before .before in
+    let low : r .v .given .0 .0 < in-loop .before .loop .last = omega arith in
+    c .none2 .ensures ∙ ap listed (sym (ints-low _ _ _ _ _ _ (read r) low) ∙ whole-answer in-loop)
 
 cast-list : tie.Need-cast-list Inv-loop μ-loop
 cast-list c = let h = value (c .before .before) in omega arith
@@ -81,9 +85,11 @@ returns-3 c =
     let b = c .before .before .before .before .before .before .before .before .before .loop in
     let v = c .before .before .before .before .before .v .given .0 .0 in
     let h : b .n < 10 = omega arith in
+    let from : b .last ≤ v = omega arith in
     sym (whole (set (b .list) (b .n) v) (b .n + 1) (length-more (b .list) (b .n) (b .inv .1) (b .inv .2) v h) (drop-more (b .list) (b .n) (b .inv .1) (b .inv .2) v h) (omega arith))
     ∙ ap listed (take-more (b .list) (b .n) (b .inv .1) (b .inv .2) v h
-    ∙ (sym (ints-last _ _ _ _ _ _ (read (c .before .before .before .before .before)) (c .before .before .before .if1 .left) (sym (c .before .ends .ensures) ∙ c .if2 .taken)) ∙ whole-answer (c .before .before .before .before .before .before .before .before)))
+    ∙ (sym (ints-last _ _ _ _ _ _ (read (c .before .before .before .before .before)) from (sym (c .before .ends .ensures) ∙ c .if2 .taken))
+    ∙ whole-answer (c .before .before .before .before .before .before .before .before)))
 
 slice-aggregate-starts : tie.Need-slice-aggregate-starts Inv-loop μ-loop
 slice-aggregate-starts c = search needs
@@ -103,6 +109,7 @@ loop-again c =
     let v = c .before .before .before .before .before .before .before .before .v .given .0 .0 in
     let next = c .before .before .before .before .before .before .before .before .v .given .0 .1 .0 in
     let line = c .before .before .before .before .before .before .before .before .before .before .before .before .before .before .args .line .now in
+    let from : b .last ≤ v = omega arith in
     let h : b .n < 10 = omega arith in (
       omega arith,
       length-more (b .list) (b .n) (b .inv .1) (b .inv .2) v h,
@@ -110,7 +117,7 @@ loop-again c =
       λ k e.
           ap (ints k (drop (next + 1) line) v) (take-more (b .list) (b .n) (b .inv .1) (b .inv .2) v h)
           ∙ (ap (λ (r : List ℕ). ints k r v (take (b .n) (b .list) ++ (v ∷ []))) (sym (drop-drop 1 next line))
-          ∙ (sym (ints-more k _ _ _ _ _ (read (c .before .before .before .before .before .before .before .before)) (c .before .before .before .before .before .before .if1 .left) (sym (c .before .before .before .before .ends .ensures) ∙ c .before .before .before .if2 .left) (sym (c .before .starts .ensures) ∙ c .if3 .taken))
+          ∙ (sym (ints-more k _ _ _ _ _ (read (c .before .before .before .before .before .before .before .before)) from (sym (c .before .before .before .before .ends .ensures) ∙ c .before .before .before .if2 .left) (sym (c .before .starts .ensures) ∙ c .if3 .taken))
           ∙ b .inv .3 (suc k) (omega arith))),
     )
 
@@ -118,7 +125,15 @@ none-requires-3 : tie.Need-none-requires-3 Inv-loop μ-loop
 none-requires-3 c κs = search needs
 
 returns-4 : tie.Need-returns-4 Inv-loop μ-loop
-returns-4 c = c .none3 .ensures ∙ ap listed (sym (ints-other _ _ _ _ _ _ (read (c .before .before .before .before .before .before .before .before .before)) (c .before .before .before .before .before .before .before .if1 .left) (sym (c .before .before .before .before .before .ends .ensures) ∙ c .before .before .before .before .if2 .left) (sym (c .before .before .starts .ensures) ∙ c .before .if3 .left)) ∙ whole-answer (c .before .before .before .before .before .before .before .before .before .before .before .before))
+returns-4 c =
+    let r = c .before .before .before .before .before .before .before .before .before in
+    let in-loop = r .before .before .before in
+    let from : in-loop .before .loop .last ≤ r .v .given .0 .0 = omega arith in
+    let m = c .before .before .before .before in
+    let more = sym (m .before .ends .ensures) ∙ m .if2 .left in
+    let other = sym (c .before .before .starts .ensures) ∙ c .before .if3 .left in
+    c .none3 .ensures ∙
+    ap listed (sym (ints-other _ _ _ _ _ _ (read r) from more other) ∙ whole-answer in-loop)
 
 none-requires-4 : tie.Need-none-requires-4 Inv-loop μ-loop
 none-requires-4 c κs = search needs
