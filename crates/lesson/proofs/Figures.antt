@@ -1,6 +1,6 @@
--- C1 to C10 and the printed trace, as one theorem over one list: on the buffer, and over the record. Assumes nothing.
+-- C1 to C10, the printed trace and their neighbours, as one theorem over one list: on the buffer, and over the record. Assumes nothing.
 use mathlib.Core.Path.{_≡_, refl, sym, ap, _∙_, fun-ext}
-use mathlib.Core.Bool.{Bool, true}
+use mathlib.Core.Bool.{Bool, true, _&&_}
 use mathlib.Core.List.{List, [], _∷_, map}
 use Prim.Native.Nat.{ℕ}
 use lib.Dec.{eqb}
@@ -14,6 +14,7 @@ use Rattle.rules.specs.Record.{counter}
 use Rattle.rules.specs.Rules.{limits, blocks, inRange, stands, refusal, runs, wait, failed, verdict, ruling, points, moved, counted, asked, onGranted, onFailed, onOutcome, acted, switched, obeyed, changed, enters, adds, learn, known, answers, short, step, held, heldAnswers}
 use Rattle.rules.specs.State.{State, fresh}
 use Rattle.rules.specs.Told.{tells, told}
+use Rattle.rules.proofs.Checks.{and-left, and-right}
 use Rattle.rules.proofs.RecordTells.{Begins, answers-told, as-told}
 use Rattle.rules.proofs.Demand3.{Starts, held-told, held-answers}
 use Rattle.buffer.specs.Layout.{lay, factsOf}
@@ -129,10 +130,19 @@ all-same : (cs : List Case) → AllFine cs → map seenOnBuffer cs ≡ map seenO
 all-same [] h = refl
 all-same (c ∷ cs) h = λ i. same c (h .0) i ∷ all-same cs (h .1) i
 
+-- one test over the whole list
+everyFine : List Case → Bool
+everyFine [] = true
+everyFine (c ∷ cs) = every (tests (c .from)) && everyFine cs
+
+fine-every : (cs : List Case) → everyFine cs ≡ true → AllFine cs
+unfolding everyFine
+fine-every [] h = tt
+fine-every (c ∷ cs) h = (fine (c .from) (and-left (every (tests (c .from))) _ h), fine-every cs (and-right (every (tests (c .from))) _ h))
+
 all-fine : AllFine cases
-unfolding atMost openNumber settings files bothGood goodOrAbsent absent file blank ascending
-all-fine =
-    (fine _ refl, (fine _ refl, (fine _ refl, (fine _ refl, (fine _ refl, (fine _ refl, (fine _ refl, (fine _ refl, (fine _ refl, (fine _ refl, tt))))))))))
+unfolding everyFine atMost openNumber settings files bothGood goodOrAbsent absent file blank ascending
+all-fine = fine-every cases refl
 
 -- THE FIGURES
 pub figures : map seenOnBuffer cases ≡ expected

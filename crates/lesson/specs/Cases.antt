@@ -1,10 +1,12 @@
--- Document 01's figures for the classroom, with the waits of request 3 and the seconds of request 4: how the buffer is opened, what is called, and what must be seen, over
--- the calls' own definitions on the 1,330 places and over the record. Assumes nothing.
+-- Document 01's figures for the classroom, with the waits of request 3 and the seconds of request 4,
+-- and neighbours of theirs, so that every answer but 1 stands in one: how the buffer is opened, what
+-- is called, and what must be seen, over the calls' own definitions on the 1,330 places and over the
+-- record. Assumes nothing.
 use Prim.Native.Nat.{ℕ}
 use mathlib.Core.List.{List, [], _∷_, _++_}
 use lib.ListN.{getD, replicate}
 use Rattle.rules.specs.declared.Answer.{Answer}
-use Rattle.rules.specs.Calls.{C-PDP-1, Call, timed, answer}
+use Rattle.rules.specs.Calls.{C-PDP-1, query, bad, Call, timed, typed, answer}
 use Rattle.rules.specs.declared.Event.the-variants.{Ask as ask, Outcome as outcome, Tick as tick}
 use Rattle.rules.specs.declared.Outcome.the-variants.{Granted as granted, Silent as silent, Rejected as rejected}
 use Rattle.rules.specs.Record.{counter}
@@ -54,24 +56,31 @@ seenOverRecord c = let g = givenBy (c .from) in record { given = ruledAll g [] (
 abbrev padded : ℕ → List ℕ → List ℕ
 padded n l = l ++ replicate n 0
 
-abbrev from : (opened nfm N1 F2 F4 S1 LR3 pdp1 : ℕ) → Order
-from t nfm n1 f2 f4 s1 lr3 pdp1 = record {
+-- the parameters are N1, T1, F1, F2, F3, F4
+abbrev from : (opened nfm : ℕ) → (parameters : List ℕ) → (A1 S1 LR3 pdp1 : ℕ) → Order
+from t nfm l a1 s1 lr3 pdp1 = record {
   time = t;
   imsi = 1010123456789;
   intervals = 60 ∷ 120 ∷ 240 ∷ [];
   nfm = nfm;
   rpm = 1;
-  A1 = 0;
+  A1 = a1;
   S1 = s1;
-  parameters = padded 26 (n1 ∷ 0 ∷ 0 ∷ f2 ∷ 0 ∷ f4 ∷ []);
+  parameters = padded 26 l;
   rates = padded 3 (0 ∷ 0 ∷ lr3 ∷ []);
   counters = padded 26 (0 ∷ 0 ∷ pdp1 ∷ 0 ∷ 0 ∷ 0 ∷ []);
   ownParameters = rtc10;
   ownRates = replicate 6 0;
 }
 
+abbrev none : List ℕ
+none = 0 ∷ 0 ∷ 0 ∷ 0 ∷ 0 ∷ 0 ∷ []
+
 abbrev plain : Order
-plain = from 0 1 0 0 0 0 0 0
+plain = from 0 1 none 0 0 0 0
+
+abbrev leaking : Order
+leaking = from 0 1 none 0 0 1 3
 
 abbrev case : Order → List Call → Case
 case o cs = record { from = o; calls = cs }
@@ -84,20 +93,30 @@ cases =
     -- C2, C3
     ∷ case plain (timed 1000 (ask 2) ∷ timed 1010 (outcome 2 (rejected 26 0)) ∷ timed 1112 (ask 2) ∷ timed 1113 (ask 2) ∷ [])
     -- C4, C5
-    ∷ case (from 0 1 0 0 0 2 0 0) (timed 10 (ask 3) ∷ timed 10 (outcome 3 granted) ∷ timed 20 (ask 3) ∷ timed 20 (outcome 3 granted) ∷ timed 3609 (ask 3) ∷ timed 3610 (ask 3) ∷ [])
+    ∷ case (from 0 1 none 0 2 0 0) (timed 10 (ask 3) ∷ timed 10 (outcome 3 granted) ∷ timed 20 (ask 3) ∷ timed 20 (outcome 3 granted) ∷ timed 3609 (ask 3) ∷ timed 3610 (ask 3) ∷ [])
     -- C6, C7
-    ∷ case (from 0 1 1 0 0 0 0 0) (timed 100 (ask 5) ∷ timed 3699 (ask 5) ∷ timed 3700 (ask 5) ∷ [])
+    ∷ case (from 0 1 (1 ∷ 0 ∷ 0 ∷ 0 ∷ 0 ∷ 0 ∷ []) 0 0 0 0) (timed 100 (ask 5) ∷ timed 3699 (ask 5) ∷ timed 3700 (ask 5) ∷ [])
     -- C8
-    ∷ case (from 0 1 0 0 2 0 0 0) (timed 0 (ask 2) ∷ timed 1 (outcome 2 granted) ∷ timed 2 (ask 4) ∷ timed 3 (ask 2) ∷ [])
+    ∷ case (from 0 1 (0 ∷ 0 ∷ 0 ∷ 0 ∷ 0 ∷ 2 ∷ []) 0 0 0 0) (timed 0 (ask 2) ∷ timed 1 (outcome 2 granted) ∷ timed 2 (ask 4) ∷ timed 3 (ask 2) ∷ [])
     -- C9
-    ∷ case (from 0 0 0 1 0 0 0 0) (timed 0 (ask 2) ∷ timed 1 (outcome 2 (rejected 33 0)) ∷ timed 2 (ask 2) ∷ [])
+    ∷ case (from 0 0 (0 ∷ 0 ∷ 0 ∷ 1 ∷ 0 ∷ 0 ∷ []) 0 0 0 0) (timed 0 (ask 2) ∷ timed 1 (outcome 2 (rejected 33 0)) ∷ timed 2 (ask 2) ∷ [])
     -- C10
-    ∷ case (from 0 1 0 0 0 0 1 3) (timed 3599 tick ∷ [])
-    ∷ case (from 0 1 0 0 0 0 1 3) (timed 3599 tick ∷ timed 3600 tick ∷ [])
-    ∷ case (from 0 1 0 0 0 0 1 3) (timed 3599 tick ∷ timed 3600 tick ∷ timed 10800 tick ∷ [])
+    ∷ case leaking (timed 3599 tick ∷ [])
+    ∷ case leaking (timed 3599 tick ∷ timed 3600 tick ∷ [])
+    ∷ case leaking (timed 3599 tick ∷ timed 3600 tick ∷ timed 10800 tick ∷ [])
     -- the printed trace, opened at 1000 with S1 = 2
-    ∷ case (from 1000 1 0 0 0 2 0 0)
+    ∷ case (from 1000 1 none 0 2 0 0)
     (timed 1000 (ask 2) ∷ timed 1010 (outcome 2 (rejected 26 0)) ∷ timed 1112 (ask 2) ∷ timed 1113 (ask 2) ∷ timed 1114 (outcome 2 granted) ∷ timed 1115 (ask 2) ∷ [])
+    -- C9's neighbours: after silence F1, after a temporary cause F3; A1, which the other
+    -- registration meets
+    ∷ case (from 0 0 (0 ∷ 0 ∷ 1 ∷ 0 ∷ 0 ∷ 0 ∷ []) 0 0 0 0) (timed 0 (ask 2) ∷ timed 1 (outcome 2 silent) ∷ timed 2 (ask 2) ∷ [])
+    ∷ case (from 0 0 (0 ∷ 0 ∷ 0 ∷ 0 ∷ 1 ∷ 0 ∷ []) 0 0 0 0) (timed 0 (ask 2) ∷ timed 1 (outcome 2 (rejected 26 0)) ∷ timed 2 (ask 2) ∷ [])
+    ∷ case (from 0 1 none 1 0 0 0) (timed 0 (ask 0) ∷ timed 1 (outcome 0 granted) ∷ timed 2 (ask 1) ∷ [])
+    -- C2's: re-attach; another network, and the same cause without one, the first failure
+    ∷ case plain
+    (timed 1000 (ask 2) ∷ timed 1010 (outcome 2 (rejected 28 0)) ∷ timed 1011 (ask 2) ∷ timed 1012 (outcome 2 (rejected 34 1)) ∷ timed 1013 (ask 2) ∷ timed 1014 (outcome 2 (rejected 34 0)) ∷ [])
+    -- the checks, and the read
+    ∷ case plain (timed 5 tick ∷ timed 6 (ask 6) ∷ timed 4 (ask 0) ∷ timed 5 (ask 4) ∷ typed query ∷ typed bad ∷ [])
     ∷ []
 
 abbrev ok : Answer
@@ -118,4 +137,9 @@ expected =
     ∷ sight (ok ∷ ok ∷ []) 2
     ∷ sight (ok ∷ ok ∷ ok ∷ []) 0
     ∷ sight (ok ∷ answer 20 103 ∷ answer 10 1 ∷ ok ∷ ok ∷ answer 4 0 ∷ []) 0
+    ∷ sight (ok ∷ answer 23 0 ∷ answer 13 3598 ∷ []) 1
+    ∷ sight (ok ∷ answer 23 0 ∷ answer 15 3598 ∷ []) 0
+    ∷ sight (ok ∷ ok ∷ answer 17 3598 ∷ []) 0
+    ∷ sight (ok ∷ answer 21 0 ∷ ok ∷ answer 22 0 ∷ ok ∷ answer 20 103 ∷ []) 0
+    ∷ sight (ok ∷ answer 2 0 ∷ answer 3 0 ∷ answer 4 0 ∷ answer 0 15 ∷ answer 5 0 ∷ []) 0
     ∷ []

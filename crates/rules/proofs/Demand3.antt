@@ -44,7 +44,7 @@ pub as-the-rules : (g : State) → Starts g → (before : List Call) (next : Cal
     → Demand3 g (told g before) next
 as-the-rules g b before next same = record {
   as-the-record = same;
-  direct = sentences g (told g before) next (λ c. rw (same c) (ruled-given g (told g before) (rises g b before) c));
+  direct = sentences g (told g before) (rises g b before) next (λ c. rw (same c) (ruled-given g (told g before) (rises g b before) c));
 }
 
 -- and whoever keeps its sentences, which know no rule, answers every call as the rules do

@@ -10,11 +10,14 @@ use borrow.Author.Tests.{ltb-true, ltb-false, eq-eqb}
 use native.Mathlib.Omega.{arith}
 use Rattle.rules.specs.declared.Answer.{Answer}
 use Rattle.rules.specs.Calls.{Outcome, ask, outcome, Call, timed, Entry, entry, answer}
-use Rattle.rules.specs.Tables.{inHour, Kind, goes, action}
+use Rattle.rules.specs.Tables.{inHour, fromNewest, freeIn, Kind, goes, among, limiting, action}
 use Rattle.rules.specs.State.{State}
 use Rattle.rules.specs.Record.{permits}
 use Rattle.rules.specs.Direct.{Accepted, Limited, N1, F1, F2, F3, F4, A1, S1, Over, WithinLimits, Free, nextWait, BacksOff, backs-off, Given, permitted, on-grant, on-drop, on-tick, on-line, out-of-range, out-of-time, wrong-standing, not-as-above, held, blocked, backed-off, in-its-place, other-action, Breaks, back-off, limit, Direct}
+use Rattle.rules.proofs.Newest.{rising-more}
+use Rattle.rules.proofs.Hour.{rising-at}
 use Rattle.rules.proofs.Limited.{either}
+use Rattle.rules.proofs.Given.{Rises}
 
 module _ (g : State) (past : List Entry) where
   -- a limit's number, and the list that it counts: its request's permit goes there
@@ -93,6 +96,27 @@ module _ (g : State) (past : List Entry) where
   else-permits (held x low e) y h = absurd (h 10 (back-off low e))
   else-permits (blocked {n = n} x free l v lower u) y h = absurd (h n (limit l v))
 
+  -- a limit's seconds: some are left, and none that it counts is after now
+  seconds : (up : Rises g past) {t q : ℕ} {a : Answer} → Given g past (timed t (ask q)) a → among (a .number) limiting ≡ true → (1 ≤ a .second) × (a .second ≤ 3600)
+  seconds up (permitted x free keeps) e = absurd (false≢true e)
+  seconds up (out-of-range x) e = absurd (false≢true e)
+  seconds up (out-of-time r x) e = absurd (false≢true e)
+  seconds up (wrong-standing r i x) e = absurd (false≢true e)
+  seconds up (held x low h) e = absurd (false≢true e)
+  seconds up {t = t} (blocked {L = L} {k = k} x free l v lower u) e = (go (ltb 0 m) refl, omega (arith, past-time))
+    where
+      m : ℕ
+      m = freeIn t L (permits g k past)
+
+      past-time : fromNewest L (permits g k past) ≤ t
+      past-time =
+          let b = rising-more _ (permits g k past) _ t (up k) (x .in-time .not-below) in
+          rising-at _ t _ (permits g k past) b
+
+      go : (b : Bool) → ltb 0 m ≡ b → 1 ≤ m
+      go true z = ltb-true 0 m z
+      go false z = let n = ltb-false 0 m z in absurd (u .then t (omega arith) v)
+
   -- ---- What an outcome's answer tells
 
   waits : {t s : ℕ} {o : Outcome} {a : Answer} → Given g past (timed t (outcome s o)) a → BacksOff g past (timed t (outcome s o)) → a ≡ answer 20 (nextWait g past s)
@@ -122,14 +146,15 @@ module _ (g : State) (past : List Entry) where
 
   -- ---- The sentences
 
-  pub sentences : (next : Call → Answer) → ((c : Call) → Given g past c (next c)) → Direct g past next
-  sentences next lines = record {
+  pub sentences : Rises g past → (next : Call → Answer) → ((c : Call) → Given g past c (next c)) → Direct g past next
+  sentences up next lines = record {
     given = lines;
     no-permit-in-back-off = λ t q e. permit (lines (timed t (ask q))) e .free;
     resets-not-held = λ t. reset-free (lines (timed t (ask 5)));
     at-most = λ t q e n L k l above. few t q (next (timed t (ask q))) (lines (timed t (ask q))) e n L k l above;
     blocked-by-a-rule = λ t q x e. breaks (lines (timed t (ask q))) x e;
     else-permitted = λ t q x h. else-permits (lines (timed t (ask q))) x h;
+    an-hour-at-most = λ t q e. seconds up (lines (timed t (ask q))) e;
     backs-off-then = λ t s o x. waits (lines (timed t (outcome s o))) x;
     and-only-then = λ c e. twenty (lines c) e;
   }

@@ -15,14 +15,14 @@ use Rattle.rules.specs.Calls.{Outcome, Event, ask, outcome, granted, sil
 use Rattle.rules.specs.Tables.{within, inHour, fromNewest, freeIn, Kind, rank, action}
 use Rattle.rules.specs.State.{State, Facts}
 use Rattle.rules.specs.Record.{lastTime, nfmNow, permits, toBackOff, failures, backOffEnd}
-use Rattle.rules.specs.Rules.{Limit, limit, blocks, blockedBy, firstBlock, inRange, timely, stands, runs, wait, failed, verdict}
+use Rattle.rules.specs.Rules.{Limit, blocks, blockedBy, firstBlock, inRange, timely, stands, runs, wait, failed, verdict}
 use Rattle.rules.specs.Told.{tells, ruled}
 use Rattle.rules.specs.Direct.{Accepted, Limited, Over, Until, WithinLimits, Free, nextWait, Given, permitted, on-grant, on-drop, on-tick, on-line, out-of-range, out-of-time, wrong-standing, not-as-above, held, blocked, backed-off, in-its-place, other-action}
 use Rattle.rules.proofs.Groups.{of-four}
 use Rattle.rules.proofs.Newest.{Rising, rising-more, within-late, blocks-full}
 use Rattle.rules.proofs.Leaving.{full-leaves}
 use Rattle.rules.proofs.Rows.{Each, each-map, named, named-number, each-named, ordered, applies-blocking, Before, first-none, first-named, Found, none, some, find}
-use Rattle.rules.proofs.Limited.{limitsOn, listed, limited}
+use Rattle.rules.proofs.Limited.{limitsOn, applying, listed, limited}
 use Rattle.rules.proofs.Accepting.{not-true, ranges, ranged, service-low, timing, timed-in, fitting, fitted, refused-2, refused-3, refused-4, accepted-verdict, as-above, line-done, line-refused}
 
 pub in-hour-more : (t : ℕ) (l : List ℕ) → inHour t (l ++ (t ∷ [])) ≡ suc (inHour t l)
@@ -37,16 +37,6 @@ in-hour-more t (p ∷ l) = rw (in-hour-more t l) (go (within t p))
 -- the permits of a record rise to its last time
 abbrev pub Rises : State → List Entry → Type 0
 Rises g past = (k : Kind) → Rising (g .facts .opening .opened) (permits g k past) (lastTime g past)
-
--- ---- The seconds until a limit permits are one number
-
-until-one : (g : State) (past : List Entry) (t L : ℕ) (k : Kind) (m n : ℕ) → Until g past t L k m → Until g past t L k n → m ≡ n
-until-one g past t L k m n p q = go (ltb m n) (ltb n m) refl refl
-  where
-    go : (x y : Bool) → ltb m n ≡ x → ltb n m ≡ y → m ≡ n
-    go true y e f = let h = ltb-true m n e in absurd (p .then (t + m) (omega arith) (q .before (t + m) (omega arith) (omega arith)))
-    go false true e f = let h = ltb-true n m f in absurd (q .then (t + n) (omega arith) (p .before (t + n) (omega arith) (omega arith)))
-    go false false e f = let h = ltb-false m n e in let i = ltb-false n m f in omega arith
 
 module _ (g : State) (past : List Entry) where
   -- ---- A row blocks just when it applies and a permit would be one too many
@@ -85,6 +75,10 @@ module _ (g : State) (past : List Entry) where
   end-held q h = of-four (λ s. backOffEnd g s past) q h
 
   module _ (t q : ℕ) where
+    runs-held : q ≤ 3 → t < backOffEnd g q past → runs (tells g past .facts) t q ≡ true
+    unfolding runs
+    runs-held low h = rw (end-held q low, le-leb q 3 low, lt-ltb t (backOffEnd g q past) h)
+
     runs-free : Free g past t q → runs (tells g past .facts) t q ≡ false
     unfolding runs
     runs-free free = go (leb q 3) refl
@@ -97,8 +91,8 @@ module _ (g : State) (past : List Entry) where
 
     module _ (a : Accepted g past t (ask q)) where
       request-held : q ≤ 3 → t < backOffEnd g q past → ruled g past (timed t (ask q)) ≡ answer 10 (backOffEnd g q past - t)
-      unfolding verdict runs
-      request-held low h = accepted-verdict g past t (ask q) a ∙ rw (end-held q low, le-leb q 3 low, lt-ltb t (backOffEnd g q past) h)
+      unfolding verdict
+      request-held low h = accepted-verdict g past t (ask q) a ∙ rw (runs-held low h, end-held q low)
 
       by-limits : Free g past t q → ruled g past (timed t (ask q)) ≡ firstBlock (tells g past) t (limitsOn g past q)
       unfolding verdict
@@ -110,7 +104,7 @@ module _ (g : State) (past : List Entry) where
 
       -- a limit that would be broken blocks
       breaks : (n L : ℕ) (k : Kind) → Limited g past q n L k → Over g past t L k → blocks (tells g past) t (named n (limitsOn g past q)) ≡ true
-      breaks n L k l v = rw (listed g past q n L k l) (over-blocks t (limit n true L k) refl v)
+      breaks n L k l v = rw (listed g past q n L k l) (over-blocks t (applying n L k) refl v)
 
       -- so where it has what a row has that does not block, it is not
       unbroken : (P : Limit → Type 0) → Each P (limitsOn g past q) → (n L : ℕ) (k : Kind) → Limited g past q n L k
@@ -125,16 +119,15 @@ module _ (g : State) (past : List Entry) where
           ∙ first-none (tells g past) t (limitsOn g past q)
           (each-map (limitsOn g past q) (λ r is. not-over r (λ e. keeps (r .number) (r .most) (r .kind) (is e))) (limited g past q))
 
-      request-blocked : Rises g past → Free g past t q → (n L m : ℕ) (k : Kind) → Limited g past q n L k → Over g past t L k
+      request-blocked : Free g past t q → (n L : ℕ) (k : Kind) → Limited g past q n L k → Over g past t L k
           → ((n' L' : ℕ) (k' : Kind) → rank n' < rank n → Limited g past q n' L' k' → Over g past t L' k' → ⊥)
-          → Until g past t L k m → ruled g past (timed t (ask q)) ≡ answer n m
+          → ruled g past (timed t (ask q)) ≡ answer n (freeIn t L (permits g k past))
       unfolding tells
-      request-blocked up free n L m k l v lower s =
-          let b = breaks n L k l v in
-          let first = first-named (tells g past) t n (limitsOn g past q) (ordered (tells g past .facts) q) b
-          (each-map (limitsOn g past q) (λ r is x. not-over r (λ e. lower (r .number) (r .most) (r .kind) x (is e))) (limited g past q)) in
-          let here = until up t (a .in-time .not-below) (limit n true L k) (over-blocks t (limit n true L k) refl v) in
-          by-limits free ∙ first ∙ ap (blockedBy (tells g past) t) (listed g past q n L k l) ∙ ap (answer n) (until-one g past t L k _ _ here s)
+      request-blocked free n L k l v lower =
+          by-limits free
+          ∙ first-named (tells g past) t n (limitsOn g past q) (ordered (tells g past .facts) q) (breaks n L k l v)
+          (each-map (limitsOn g past q) (λ r is x. not-over r (λ e. lower (r .number) (r .most) (r .kind) x (is e))) (limited g past q))
+          ∙ ap (blockedBy (tells g past) t) (listed g past q n L k l)
 
       -- some line gives what is answered
       asked-given : Rises g past → Given g past (timed t (ask q)) (ruled g past (timed t (ask q)))
@@ -252,7 +245,7 @@ module _ (g : State) (past : List Entry) where
         sym (refused-4 g past t e (ranges e r) (timing g past t i) (not-true (stands (tells g past .facts) e) (λ p. not-so (fitted g past e r p))))
     given-ruled _ _ (not-as-above {l = l} not-so) = sym (line-refused g past l not-so)
     given-ruled _ _ (held {t = t} {q = q} a low h) = sym (request-held t q a low h)
-    given-ruled _ _ (blocked {t = t} {q = q} {n = n} {L = L} {m = m} {k = k} a free l v lower u) = sym (request-blocked t q a up free n L m k l v lower u)
+    given-ruled _ _ (blocked {t = t} {q = q} {n = n} {L = L} {k = k} a free l v lower u) = sym (request-blocked t q a free n L k l v lower)
     given-ruled _ _ (backed-off {t = t} {s = s} {o = o} a e n) = sym (failure-20 t s o a e n)
     given-ruled _ _ (in-its-place {t = t} {s = s} {o = o} a e n) = sym (failure-23 t s o a e n)
     given-ruled _ _ (other-action {t = t} {s = s} {cause = cause} {second = second} a e) = sym (failure-other t s cause second a e)

@@ -42,10 +42,10 @@ rolling-hour L t a (p ∷ l) g h = go (leb L (length l)) refl (rolling-hour L t 
     go false e ih = last (leb L (suc (length l))) refl (leb-false L (length l) e)
 
 -- no time of a list that rises to t is after t
-pub rising-at : (a t i : ℕ) (l : List ℕ) → Rising a l t → i < length l → getD l i 0 ≤ t
-rising-at a t i [] h g = absurd (omega arith)
-rising-at a t zero (p ∷ l) h g = rising-le p l t (h .1)
-rising-at a t (suc i) (p ∷ l) h g = rising-at p t i l (h .1) (omega arith)
+pub rising-at : (a t i : ℕ) (l : List ℕ) → Rising a l t → getD l i 0 ≤ t
+rising-at a t i [] h = omega arith
+rising-at a t zero (p ∷ l) h = rising-le p l t (h .1)
+rising-at a t (suc i) (p ∷ l) h = rising-at p t i l (h .1)
 
 -- so one time tells: L or more of a list that rises to t are in the hour of t just when the time L places from the newest is there and in
 -- the hour
@@ -54,5 +54,5 @@ unfolding within
 one-time L t a l g h = rolling-hour L t a l g h ∙ go (leb L (length l)) refl
   where
     go : (b : Bool) → leb L (length l) ≡ b → (b && ltb t (fromNewest L l + 3600)) ≡ (b && (leb (fromNewest L l) t && ltb t (fromNewest L l + 3600)))
-    go true e = let n = leb-true L (length l) e in rw (le-leb (fromNewest L l) t (rising-at a t (length l - L) l h (omega arith)))
+    go true e = rw (le-leb (fromNewest L l) t (rising-at a t (length l - L) l h))
     go false e = refl

@@ -31,6 +31,10 @@ one-of q a b e = go (eqb q a) refl e
     go true p e = inl (eqb-true q a p)
     go false p e = inr (eqb-true q b e)
 
+-- a limit that applies
+abbrev pub applying : (n L : ℕ) → Kind → Limit
+applying n L k = record { number = n; applies = true; most = L; kind = k }
+
 both : {x y : Bool} → x ≡ true → y ≡ true → (x && y) ≡ true
 both p q = rw (p, q)
 
@@ -48,7 +52,7 @@ module _ (g : State) (past : List Entry) (q : ℕ) where
   in-mood : {m : ℕ} → o .rpm ≡ 1 → q ≡ 2 → mood g past ≡ m → (eqb (o .rpm) 1 && (eqb q 2 && eqb (mood g past) m)) ≡ true
   in-mood {m} p e h = both (eq-eqb (o .rpm) 1 p) (both (eq-eqb q 2 e) (eq-eqb (mood g past) m h))
 
-  pub listed : (n L : ℕ) (k : Kind) → Limited g past q n L k → named n limitsOn ≡ limit n true L k
+  pub listed : (n L : ℕ) (k : Kind) → Limited g past q n L k → named n limitsOn ≡ applying n L k
   unfolding limits tells o
   listed n L k (N1 p e) = ap (λ b. limit 11 b (o .N1) reset) (both (eq-eqb (o .rpm) 1 p) (eq-eqb q 5 e))
   listed n L k (F1 p e m) = ap (λ b. limit 13 b (o .F1) activation) (in-mood p e m)
@@ -100,6 +104,7 @@ module _ (g : State) (past : List Entry) (q : ℕ) where
   row-S1 : eqb q 3 ≡ true → Limited g past q 18 (g .facts .opening .S1) sms
   row-S1 e = S1 (eqb-true q 3 e)
 
+  -- found by what each row says, wherever it stands
   pub limited : Each (λ r. r .applies ≡ true → Limited g past q (r .number) (r .most) (r .kind)) limitsOn
   unfolding limits tells on
   limited = search (row-N1, row-F1, row-F2, row-F3, row-F4, row-A1, row-S1)

@@ -56,17 +56,17 @@ ascending-wider lo hi a b (x ∷ l) h g e =
 
 -- ---- The newest 255 show what a limit of at most 255 asks
 
-pub within-true : (t p : ℕ) → p ≤ t → t < p + 3600 → within t p ≡ true
-unfolding within
-within-true t p h g = rw (le-leb p t h, lt-ltb t (p + 3600) g)
-
 pub within-past : (t p : ℕ) → within t p ≡ true → p ≤ t
 unfolding within
-within-past t p e = leb-true p t (and-left (leb p t) _ e)
+within-past t p e = let h = and-left (leb p t) _ e in omega (arith, leb-true)
 
 pub within-late : (t p : ℕ) → within t p ≡ true → t < p + 3600
 unfolding within
-within-late t p e = ltb-true t (p + 3600) (and-right (leb p t) _ e)
+within-late t p e = let h = and-right (leb p t) _ e in omega (arith, leb-true, ltb-true, eqb-true)
+
+pub within-true : (t p : ℕ) → p ≤ t → t < p + 3600 → within t p ≡ true
+unfolding within
+within-true t p h g = rw (le-leb p t h, lt-ltb t (p + 3600) g)
 
 pub all-in : (a t : ℕ) (l : List ℕ) → Rising a l t → t < a + 3600 → inHour t l ≡ length l
 all-in a t [] h g = refl
@@ -142,7 +142,8 @@ unfolding blocks
 blocks-full w t r e =
     let l = w .lists (r .kind) in
     let h = and-right (r .applies) _ e in
-    let n = leb-true (r .most) (inHour t l) (and-right (ltb 0 (r .most)) _ h) in
+    let full = and-right (ltb 0 (r .most)) _ h in
+    let n : r .most ≤ inHour t l = omega (arith, leb-true, ltb-true) in
     record {
       applies = and-left (r .applies) _ e;
       above = ltb-true 0 (r .most) (and-left (ltb 0 (r .most)) _ h);

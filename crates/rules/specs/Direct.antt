@@ -9,7 +9,7 @@ use mathlib.Core.List.{List, [], _∷_, _++_}
 use mathlib.Core.Logic.{_⊎_, _≢_}
 use Rattle.rules.specs.declared.Answer.{Answer}
 use Rattle.rules.specs.Calls.{Outcome, Event, ask, outcome, granted, silent, rejected, dropped, tick, Line, nfm, nfm-start, intervals, query, bad, Call, timed, typed, Entry, entry, answer}
-use Rattle.rules.specs.Tables.{highestTime, inHour, Kind, attach, activation, pdp, sms, reset, rank, action, oneMore, waitFor, scheduled}
+use Rattle.rules.specs.Tables.{highestTime, inHour, freeIn, Kind, attach, activation, pdp, sms, reset, among, limiting, rank, action, oneMore, waitFor, scheduled}
 use Rattle.rules.specs.State.{State}
 use Rattle.rules.specs.Record.{lastTime, nfmNow, intervalsNow, permits, toBackOff, failures, backOffEnd, standing, mood}
 
@@ -128,9 +128,11 @@ pub data Given (g : State) (past : List Entry) : Call → Answer → Type 0 wher
   -- 10: "back-off runs, requests 0-3", "seconds left"
   held : {t q : ℕ} → Accepted g past t (ask q) → q ≤ 3 → t < backOffEnd g q past → Given g past (timed t (ask q)) (answer 10 (backOffEnd g q past - t))
   -- "Then 10, and of the limits that apply: 11, 13, 14, 15, 16, 17, 18; the first alone acts"
-  blocked : {t q n L m : ℕ} {k : Kind} → Accepted g past t (ask q) → Free g past t q → Limited g past q n L k → Over g past t L k
+  -- with "the permit time L places from the newest .. plus 3,600, less now", which are the seconds
+  -- until it would permit
+  blocked : {t q n L : ℕ} {k : Kind} → Accepted g past t (ask q) → Free g past t q → Limited g past q n L k → Over g past t L k
       → ((n' L' : ℕ) (k' : Kind) → rank n' < rank n → Limited g past q n' L' k' → Over g past t L' k' → ⊥)
-      → Until g past t L k m → Given g past (timed t (ask q)) (answer n m)
+      → Until g past t L k (freeIn t L (permits g k past)) → Given g past (timed t (ask q)) (answer n (freeIn t L (permits g k past)))
   -- 20: "backed off", "the wait"; "With NFM 0 .. the answer is 23 in place of 20"
   backed-off : {t s : ℕ} {o : Outcome} → Accepted g past t (outcome s o) → toBackOff s o ≡ true → nfmNow g past ≡ 1
       → Given g past (timed t (outcome s o)) (answer 20 (nextWait g past s))
@@ -162,6 +164,9 @@ pub record Direct (g : State) (past : List Entry) (next : Call → Answer) : Typ
       → Breaks g past t q (next (timed t (ask q)) .number)
   -- so where its permit would break none, it is permitted
   pub else-permitted : (t q : ℕ) → Accepted g past t (ask q) → ((n : ℕ) → Breaks g past t q n → ⊥) → next (timed t (ask q)) ≡ answer 0 0
+  -- 11 and 13 to 18 carry from a second to an hour
+  pub an-hour-at-most : (t q : ℕ) → among (next (timed t (ask q)) .number) limiting ≡ true
+      → (1 ≤ next (timed t (ask q)) .second) × (next (timed t (ask q)) .second ≤ 3600)
   -- a back-off begins with what happened, and 20 is given for nothing else
   pub backs-off-then : (t s : ℕ) (o : Outcome) → BacksOff g past (timed t (outcome s o)) → next (timed t (outcome s o)) ≡ answer 20 (nextWait g past s)
   pub and-only-then : (c : Call) → next c .number ≡ 20 → BacksOff g past c

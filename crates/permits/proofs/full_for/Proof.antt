@@ -26,7 +26,7 @@ module _ (p : List ℕ) (n t : ℕ) (long : n ≤ length p) (up : ascending 0 t 
   rises = ascending-rises 0 t (take n p) (omega arith) up
 
   past : (i : ℕ) → i < n → getD p i 0 ≤ t
-  past i h = rw (getD-take n p i 0 h) at (rising-at 0 t i (take n p) rises (omega (arith, used)))
+  past i h = rw (getD-take n p i 0 h) at (rising-at 0 t i (take n p) rises)
 
   module _ (L : ℕ) (some : 0 < L) where
     looked : fullFor t L (take n p) ≡ cond (leb L (length (take n p)) && within t (fromNewest L (take n p))) (freeIn t L (take n p)) 0
