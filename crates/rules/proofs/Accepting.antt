@@ -76,21 +76,6 @@ module _ (g : State) (past : List Entry) where
   unfolding tells
   stands-told s h = of-four (λ u. standing g u past) s h
 
-  pub fitting : (e : Event) → InRange e → Fits g past e → stands (tells g past .facts) e ≡ true
-  unfolding stands
-  fitting (ask q) r h = go (leb q 3) (eqb q 4) refl refl
-    where
-      l : List ℕ
-      l = tells g past .facts .services .standing
-
-      go : (x y : Bool) → leb q 3 ≡ x → eqb q 4 ≡ y → cond x (eqb (getD l q 0) 0) (cond y (eqb (getD l 2 0) 2) true) ≡ true
-      go true y p z = let low = leb-true q 3 p in eq-eqb (getD l q 0) 0 (stands-told q low ∙ h .0 low)
-      go false true p z = eq-eqb (getD l 2 0) 2 (stands-told 2 (omega arith) ∙ h .1 (eqb-true q 4 z))
-      go false false p z = refl
-  fitting (outcome s o) r h = eq-eqb _ 1 (stands-told s (service-low s o r) ∙ h)
-  fitting dropped r h = eq-eqb _ 2 (stands-told 2 (omega arith) ∙ h)
-  fitting tick r h = refl
-
   pub fitted : (e : Event) → InRange e → stands (tells g past .facts) e ≡ true → Fits g past e
   unfolding stands
   fitted (ask q) r h = (idle, up)
@@ -106,6 +91,21 @@ module _ (g : State) (past : List Entry) where
   fitted (outcome s o) r h = sym (stands-told s (service-low s o r)) ∙ eqb-true _ 1 h
   fitted dropped r h = sym (stands-told 2 (omega arith)) ∙ eqb-true _ 2 h
   fitted tick r h = tt
+
+  pub fitting : (e : Event) → InRange e → Fits g past e → stands (tells g past .facts) e ≡ true
+  unfolding stands
+  fitting (ask q) r h = go (leb q 3) (eqb q 4) refl refl
+    where
+      l : List ℕ
+      l = tells g past .facts .services .standing
+
+      go : (x y : Bool) → leb q 3 ≡ x → eqb q 4 ≡ y → cond x (eqb (getD l q 0) 0) (cond y (eqb (getD l 2 0) 2) true) ≡ true
+      go true y p z = let low = leb-true q 3 p in eq-eqb (getD l q 0) 0 (stands-told q low ∙ h .0 low)
+      go false true p z = eq-eqb (getD l 2 0) 2 (stands-told 2 (omega arith) ∙ h .1 (eqb-true q 4 z))
+      go false false p z = refl
+  fitting (outcome s o) r h = eq-eqb _ 1 (stands-told s (service-low s o r) ∙ h)
+  fitting dropped r h = eq-eqb _ 2 (stands-told 2 (omega arith) ∙ h)
+  fitting tick r h = refl
 
   -- ---- The answer, by the first check that is not passed
 
