@@ -169,15 +169,11 @@ fn save(state: &[u32])
         os::fail(b"trace: FILE");
         return;
     }
-    if n > 4090 {
+    let m = files::beside(&mut name, n);
+    if m == 0 {
         io::write_all(STDERR_FILENO, b"trace: FILE: the name is too long\n");
         return;
     }
-    name[n] = b'.';
-    name[n + 1] = b'n';
-    name[n + 2] = b'e';
-    name[n + 3] = b'w';
-    let m = n + 4;
     store(state, &name[..m], n);
 }
 

@@ -1,9 +1,10 @@
--- `trace::save` meets its contract. Assumes nothing.
+-- `trace::save` meets its contract: the name that `beside` made is within the room. Assumes nothing.
 use mathlib.Core.Path.{sym}
 use native.Mathlib.Omega.{arith}
-use lib.ListN.{length-set, length-take}
+use lib.ListN.{length-take}
 use lib.Seq.{length-take-le}
 use borrow.Author.Needs.{needs}
+use Rattle.files.proofs.Naming.{within}
 use Rattle.trace.proofs.save.Statement.{statement}
 use Rattle.trace.proofs.save.Tie as tie
 
@@ -28,6 +29,12 @@ fail-requires c κs = search needs
 returns : tie.Need-returns
 returns c = search needs
 
+slice-aggregate-beside : tie.Need-slice-aggregate-beside
+slice-aggregate-beside c = search needs
+
+beside-requires : tie.Need-beside-requires
+beside-requires c κs = search needs
+
 slice-aggregate-write-all : tie.Need-slice-aggregate-write-all
 slice-aggregate-write-all c = search needs
 
@@ -37,38 +44,14 @@ write-all-requires c κs = search needs
 returns-2 : tie.Need-returns-2
 returns-2 c = search needs
 
-array-write-name : tie.Need-array-write-name
-array-write-name c = search needs
-
-add-name : tie.Need-add-name
-add-name c = search needs
-
-array-write-name-2 : tie.Need-array-write-name-2
-array-write-name-2 c = search needs
-
-add-name-2 : tie.Need-add-name-2
-add-name-2 c = search needs
-
-array-write-name-3 : tie.Need-array-write-name-3
-array-write-name-3 c = search needs
-
-add-name-3 : tie.Need-add-name-3
-add-name-3 c = search needs
-
-array-write-name-4 : tie.Need-array-write-name-4
-array-write-name-4 c = search needs
-
-add-m : tie.Need-add-m
-add-m c = search needs
-
 array-share-prefix-name : tie.Need-array-share-prefix-name
-array-share-prefix-name c = simp length-set (omega (arith, c .before .before .before .before .arg .kept .1 .0))
+array-share-prefix-name c = omega (arith, within (c .before .before .beside .ensures) (c .if2 .left))
 
 slice-aggregate-store : tie.Need-slice-aggregate-store
-slice-aggregate-store c = sym (length-take-le _ _ (simp length-set (omega (arith, c .before .before .before .before .before .arg .kept .1 .0))))
+slice-aggregate-store c = sym (length-take-le _ _ (omega (arith, within (c .before .before .before .beside .ensures) (c .before .if2 .left))))
 
 store-requires : tie.Need-store-requires
-store-requires c κs = (c .before .before .before .before .before .before .before .before .before .pre, simp (length-take, length-set) (omega (arith, c .before .before .before .before .before .arg .kept .1 .0)))
+store-requires c κs = (c .before .before .before .before .before .before .before .before .before .before .before .before .pre, simp length-take (omega (arith, within (c .before .before .before .beside .ensures) (c .before .if2 .left))))
 
 returns-3 : tie.Need-returns-3
 returns-3 c = search needs
@@ -84,17 +67,11 @@ save-spec =
     slice-aggregate-fail
     fail-requires
     returns
+    slice-aggregate-beside
+    beside-requires
     slice-aggregate-write-all
     write-all-requires
     returns-2
-    array-write-name
-    add-name
-    array-write-name-2
-    add-name-2
-    array-write-name-3
-    add-name-3
-    array-write-name-4
-    add-m
     array-share-prefix-name
     slice-aggregate-store
     store-requires
