@@ -37,6 +37,11 @@ rate-low b g i h = go i h
 abbrev lose : List ℕ → ℕ → ℕ → List ℕ
 lose l i g = set l i (getD l i 0 - g)
 
+-- a counter is read, g points are taken from it, and what is left is stored
+pub one-drained : (b : List ℕ) (i g : ℕ) {x : List ℕ} {n left : ℕ} → n ≡ getD b (COUNTERS + i) 0
+    → left ≡ n - g → x ≡ set b (COUNTERS + i) left → x ≡ drained b i g
+one-drained b i g e l s = cc
+
 drain-laid : {b : List ℕ} {f : Facts} {rs : List (List ℕ)} → Laid b f rs → (i g : ℕ) → i < 6 → Laid (drained b i g) (withCounters f (lose (f .counters) i g)) rs
 drain-laid {b} {f} {rs} l i g h =
     subst (λ (x : ℕ). Laid (drained b i g) (withCounters f (set (f .counters) i (x - g))) rs) (counter-at l i h) (laid-counter l i (getD b (COUNTERS + i) 0 - g) h)

@@ -1,6 +1,7 @@
 -- `clock::drain` meets its contract. Assumes nothing.
 
 use borrow.Author.Needs.{needs}
+use Rattle.clock.proofs.Leaking.{one-drained}
 use Rattle.clock.proofs.drain.Statement.{statement}
 use Rattle.clock.proofs.drain.Tie as tie
 
@@ -17,7 +18,10 @@ same-length : tie.Need-same-length
 same-length c = search needs
 
 returns : tie.Need-returns
-returns c = cc
+returns c =
+    let a = c .before .before .before .before .before .before .before .before .args in
+    one-drained (a .s .now) (a .i) (a .g) (c .before .before .before .before .before .counter .ensures) (c .before .before .before .before .less .ensures)
+    (c .before .before .set-counter .ensures)
 
 pub drain-spec : {M : Type 1} → statement M
 drain-spec =
