@@ -63,12 +63,19 @@ fn weigh(a: bool, b: bool, c: bool, d: bool, e: bool, f: bool, g: bool, h: bool)
     )
 }
 
+// The number of the i-th rule, in document 01's order; 0 where there is none.
+fn number(i: u32) -> u32
+    ensures { λ r. ⌜ r ≡ getD rules i 0 ⌝ }
+{
+    let place = i as usize;
+    if place < 8 { NUMBERS[place] } else { 0 }
+}
+
 // The number of the lowest bit's rule; 0 where no bit is set.
 fn first(bits: u32) -> u32
     ensures { λ r. ⌜ r ≡ getD rules (trailingZeros 32 bits) 0 ⌝ }
 {
-    let i = u32::trailing_zeros(bits) as usize;
-    if i < 8 { NUMBERS[i] } else { 0 }
+    number(u32::trailing_zeros(bits))
 }
 
 // Limit i, 0 to 6, on request q at t, which no check refuses. The time that has to leave is as long ago as the seconds until it does fall
