@@ -29,7 +29,7 @@ impl Backoff {
     }
 
     // After a failure: one more, to 255 at most, and a new end.
-    pub fn failed(self, end: u32) -> Backoff
+    fn failed(self, end: u32) -> Backoff
         ensures { λ r. ⌜ r ≡ later self end ⌝ }
     {
         let failures = self.failures;

@@ -5,7 +5,7 @@ ghost use Rattle.rules.specs.Tables.{ascending};
 ghost use Rattle.buffer.specs.Good.{atMost};
 
 // Every number is at most hi.
-pub fn capped(p: &[u32], hi: u32) -> bool
+pub(crate) fn capped(p: &[u32], hi: u32) -> bool
     ensures { λ r. ⌜ r ≡ atMost hi (now (p .entry)) ⌝ }
 {
     let mut ok = true;

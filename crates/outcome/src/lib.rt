@@ -91,7 +91,7 @@ fn fail(s: &mut [u32], t: u32, i: usize, n: u32, m: u32) -> Answer
 }
 
 // A grant, on a good buffer.
-pub fn granted_in(s: &mut [u32], t: u32, service: u32) -> Answer
+fn granted_in(s: &mut [u32], t: u32, service: u32) -> Answer
     requires { ⌜ length (now s) ≡ SIZE ⌝ }
     requires { ⌜ good (now s) ≡ true ⌝ }
     ensures { λ r. ⌜ Says (now (s .entry)) (timed t (outcome service granted)) r (now (s .exit)) ⌝ }
@@ -111,7 +111,7 @@ pub fn granted_in(s: &mut [u32], t: u32, service: u32) -> Answer
 }
 
 // Silence, on a good buffer.
-pub fn silent_in(s: &mut [u32], t: u32, service: u32) -> Answer
+fn silent_in(s: &mut [u32], t: u32, service: u32) -> Answer
     requires { ⌜ length (now s) ≡ SIZE ⌝ }
     requires { ⌜ good (now s) ≡ true ⌝ }
     ensures { λ r. ⌜ Says (now (s .entry)) (timed t (outcome service silent)) r (now (s .exit)) ⌝ }
@@ -127,7 +127,7 @@ pub fn silent_in(s: &mut [u32], t: u32, service: u32) -> Answer
 }
 
 // A rejection, on a good buffer.
-pub fn rejected_in(s: &mut [u32], t: u32, service: u32, cause: u32, second: u32) -> Answer
+fn rejected_in(s: &mut [u32], t: u32, service: u32, cause: u32, second: u32) -> Answer
     requires { ⌜ length (now s) ≡ SIZE ⌝ }
     requires { ⌜ good (now s) ≡ true ⌝ }
     ensures { λ r. ⌜ Says (now (s .entry)) (timed t (outcome service (rejected cause second))) r (now (s .exit)) ⌝ }

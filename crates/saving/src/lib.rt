@@ -22,7 +22,7 @@ fn counter(s: &[u32], i: usize) -> u8
 }
 
 // The counter file, of a good state.
-pub fn save_in(s: &[u32], out: &mut [u8])
+fn save_in(s: &[u32], out: &mut [u8])
     requires { ⌜ length (now s) ≡ SIZE ⌝ }
     requires { ⌜ good (now s) ≡ true ⌝ }
     requires { ⌜ length (now out) ≡ 32 ⌝ }
