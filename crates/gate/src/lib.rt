@@ -11,6 +11,7 @@ ghost use mathlib.Core.Path.{_≡_};
 ghost use Rattle.rules.specs.Calls.{timed};
 ghost use Rattle.rules.specs.declared.Event.the-variants.{Ask as ask, Outcome as outcome, Dropped as dropped, Tick as tick};
 ghost use Rattle.rules.specs.declared.Outcome.the-variants.{Granted as granted, Silent as silent, Rejected as rejected};
+ghost use Rattle.card.specs.Card.{IsPart};
 ghost use Rattle.clock.specs.Call.{Says};
 ghost use Rattle.reasons.specs.Why.{whyOf, RoomSays};
 ghost use Rattle.opening.specs.Open.{order, OpenSays};
@@ -51,6 +52,21 @@ pub fn open<'a, 'b>(
         own_params,
         own_leaks,
     )
+}
+
+// The six parameter bytes that rule, as a part of the card's file, or of the module's own where the
+// card has none; an empty part where either file is bad.
+pub fn parameters<'a>(card: &'a [u8], own: &'a [u8]) -> &'a [u8]
+    ensures { λ r. ⌜ IsPart 32 6 (card .entry) (own .entry) r ⌝ }
+{
+    card::parameters(card, own)
+}
+
+// The three leak rates that rule, in the same way.
+pub fn rates<'a>(card: &'a [u8], own: &'a [u8]) -> &'a [u8]
+    ensures { λ r. ⌜ IsPart 6 3 (card .entry) (own .entry) r ⌝ }
+{
+    card::rates(card, own)
 }
 
 // May request `kind` go to the network at `time`? 0 yes; 10 to 18 no.
