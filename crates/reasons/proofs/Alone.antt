@@ -105,9 +105,14 @@ module _ (w : State) (t q : ℕ) where
       go true x e more = absurd (each-at rs (λ y. y .number ≢ r .number) i d (each-other (r .number) rs (o .1 .0)) (omega arith) (sym e))
       go false x e more = more e
 
+  -- a limit that is taken alone has no back-off beside it
+  no-ends : (n : ℕ) → eqb n 10 ≡ false → alone n w .facts .services .ends ≡ idle
+  unfolding alone
+  no-ends n h = ap (λ (b : Bool). cond b (w .facts .services .ends) idle) h
+
   no-run : (n : ℕ) → eqb n 10 ≡ false → runs (alone n w .facts) t q ≡ false
-  unfolding runs alone
-  no-run n h = rw (h, no-end q) (go (leb q 3))
+  unfolding runs
+  no-run n h = rw (no-ends n h, no-end q) (go (leb q 3))
     where
       go : (b : Bool) → (b && ltb t 0) ≡ false
       go true = le-ltb t 0 (omega arith)
