@@ -2,8 +2,9 @@
 // state of any length and contents, any number, any file and room. A refusal changes nothing in any of them.
 //
 // What each call promises is a relation between what it was given, what it answers and what it leaves: `OpenSays`, `Says`,
-// `CommandSays` and `SaveSays`; of `why`, which changes nothing, what it says, `whyOf` and `RoomSays`; of `parameters` and `rates`, which are
-// asked of the files alone, which part it is, `IsPart`. Each allows one result only.
+// `CommandSays` and `SaveSays`; of `why`, which changes nothing, what it says, `whyOf` and `RoomSays`;
+// of `parameters` and `rates`, which are asked of the files alone, which part it is, `IsPart`. Each
+// allows one result only.
 use reasons::said::Why;
 use rules::Answer;
 use rules::Event;

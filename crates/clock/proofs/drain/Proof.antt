@@ -19,8 +19,9 @@ same-length c = search needs
 
 returns : tie.Need-returns
 returns c =
-    let a = c .before .before .before .before .before .before .before .before .args in
-    one-drained (a .s .now) (a .i) (a .g) (c .before .before .before .before .before .counter .ensures) (c .before .before .before .before .less .ensures)
+    let x = c .before .before .before .before in
+    let a = x .before .before .before .before .args in
+    one-drained (a .s .now) (a .i) (a .g) (x .before .counter .ensures) (x .less .ensures)
     (c .before .before .set-counter .ensures)
 
 pub drain-spec : {M : Type 1} → statement M

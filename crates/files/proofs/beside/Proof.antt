@@ -40,7 +40,9 @@ same-length : tie.Need-same-length
 same-length c = simp length-set
 
 returns-3 : tie.Need-returns-3
-returns-3 c = named _ _ _ (omega arith) (stores (c .before .before .args .room .now) (c .before .before .args .n) _ _ _ _)
+returns-3 c =
+    let a = c .before .before .args in
+    named _ _ _ (omega arith) (stores (a .room .now) (a .n) _ _ _ _)
 
 pub beside-spec : {M : Type 1} → statement M
 beside-spec =

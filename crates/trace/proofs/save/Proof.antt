@@ -1,4 +1,5 @@
--- `trace::save` meets its contract: the name that `beside` made is within the room. Assumes nothing.
+-- `trace::save` meets its contract: the name that `beside` made is within the room.
+-- Assumes nothing.
 use mathlib.Core.Path.{sym}
 use native.Mathlib.Omega.{arith}
 use lib.ListN.{length-take}
@@ -48,10 +49,14 @@ array-share-prefix-name : tie.Need-array-share-prefix-name
 array-share-prefix-name c = omega (arith, within (c .before .before .beside .ensures) (c .if2 .left))
 
 slice-aggregate-store : tie.Need-slice-aggregate-store
-slice-aggregate-store c = sym (length-take-le _ _ (omega (arith, within (c .before .before .before .beside .ensures) (c .before .if2 .left))))
+slice-aggregate-store c =
+    let h = within (c .before .before .before .beside .ensures) (c .before .if2 .left) in
+    sym (length-take-le _ _ (omega (arith, h)))
 
 store-requires : tie.Need-store-requires
-store-requires c κs = (c .before .before .before .before .before .before .before .before .before .before .before .before .pre, simp length-take (omega (arith, within (c .before .before .before .beside .ensures) (c .before .if2 .left))))
+store-requires c κs =
+    let h = within (c .before .before .before .beside .ensures) (c .before .if2 .left) in
+    (search needs, simp length-take (omega (arith, h)))
 
 returns-3 : tie.Need-returns-3
 returns-3 c = search needs
