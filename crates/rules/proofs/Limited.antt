@@ -43,17 +43,20 @@ module _ (g : State) (past : List Entry) (q : ℕ) where
   abbrev pub limitsOn : List Limit
   limitsOn = limits (tells g past .facts) q
 
-  -- ---- Each limit that document 01 names is the row of its number, and applies
-
-  o : Opening
+  abbrev o : Opening
   o = g .facts .opening
 
+  abbrev on : Bool
+  on = eqb (o .rpm) 1
+
+  -- ---- Each limit that document 01 names is the row of its number, and applies
+
   -- of F1, F2 and F3, which mood m picks
-  in-mood : {m : ℕ} → o .rpm ≡ 1 → q ≡ 2 → mood g past ≡ m → (eqb (o .rpm) 1 && (eqb q 2 && eqb (mood g past) m)) ≡ true
+  in-mood : {m : ℕ} → o .rpm ≡ 1 → q ≡ 2 → mood g past ≡ m → (on && (eqb q 2 && eqb (mood g past) m)) ≡ true
   in-mood {m} p e h = both (eq-eqb (o .rpm) 1 p) (both (eq-eqb q 2 e) (eq-eqb (mood g past) m h))
 
   pub listed : (n L : ℕ) (k : Kind) → Limited g past q n L k → named n limitsOn ≡ applying n L k
-  unfolding limits tells o
+  unfolding limits tells
   listed n L k (N1 p e) = ap (λ b. limit 11 b (o .N1) reset) (both (eq-eqb (o .rpm) 1 p) (eq-eqb q 5 e))
   listed n L k (F1 p e m) = ap (λ b. limit 13 b (o .F1) activation) (in-mood p e m)
   listed n L k (F2 p e m) = ap (λ b. limit 14 b (o .F2) activation) (in-mood p e m)
@@ -64,15 +67,10 @@ module _ (g : State) (past : List Entry) (q : ℕ) where
 
   -- ---- Each row that applies is one of them
 
-  on : Bool
-  on = eqb (g .facts .opening .rpm) 1
+  rpm-on : (b : Bool) → (on && b) ≡ true → o .rpm ≡ 1
+  rpm-on b e = eqb-true (o .rpm) 1 (and-left on b e)
 
-  rpm-on : (b : Bool) → (on && b) ≡ true → g .facts .opening .rpm ≡ 1
-  unfolding on
-  rpm-on b e = eqb-true (g .facts .opening .rpm) 1 (and-left on b e)
-
-  row-N1 : (on && eqb q 5) ≡ true → Limited g past q 11 (g .facts .opening .N1) reset
-  unfolding on
+  row-N1 : (on && eqb q 5) ≡ true → Limited g past q 11 (o .N1) reset
   row-N1 e = N1 (rpm-on _ e) (eqb-true q 5 (and-right on _ e))
 
   -- of F1, F2 and F3
@@ -82,29 +80,25 @@ module _ (g : State) (past : List Entry) (q : ℕ) where
   mood-is : (m : ℕ) → (on && (eqb q 2 && eqb (mood g past) m)) ≡ true → mood g past ≡ m
   mood-is m e = eqb-true (mood g past) m (and-right (eqb q 2) _ (and-right on _ e))
 
-  row-F1 : (on && (eqb q 2 && eqb (mood g past) 1)) ≡ true → Limited g past q 13 (g .facts .opening .F1) activation
-  unfolding on
+  row-F1 : (on && (eqb q 2 && eqb (mood g past) 1)) ≡ true → Limited g past q 13 (o .F1) activation
   row-F1 e = F1 (rpm-on _ e) (activates 1 e) (mood-is 1 e)
 
-  row-F2 : (on && (eqb q 2 && eqb (mood g past) 2)) ≡ true → Limited g past q 14 (g .facts .opening .F2) activation
-  unfolding on
+  row-F2 : (on && (eqb q 2 && eqb (mood g past) 2)) ≡ true → Limited g past q 14 (o .F2) activation
   row-F2 e = F2 (rpm-on _ e) (activates 2 e) (mood-is 2 e)
 
-  row-F3 : (on && (eqb q 2 && eqb (mood g past) 3)) ≡ true → Limited g past q 15 (g .facts .opening .F3) activation
-  unfolding on
+  row-F3 : (on && (eqb q 2 && eqb (mood g past) 3)) ≡ true → Limited g past q 15 (o .F3) activation
   row-F3 e = F3 (rpm-on _ e) (activates 3 e) (mood-is 3 e)
 
-  row-F4 : (on && (eqb q 2 || eqb q 4)) ≡ true → Limited g past q 16 (g .facts .opening .F4) pdp
-  unfolding on
+  row-F4 : (on && (eqb q 2 || eqb q 4)) ≡ true → Limited g past q 16 (o .F4) pdp
   row-F4 e = F4 (rpm-on _ e) (one-of q 2 4 (and-right on _ e))
 
-  row-A1 : (eqb q 0 || eqb q 1) ≡ true → Limited g past q 17 (g .facts .opening .A1) attach
+  row-A1 : (eqb q 0 || eqb q 1) ≡ true → Limited g past q 17 (o .A1) attach
   row-A1 e = A1 (one-of q 0 1 e)
 
-  row-S1 : eqb q 3 ≡ true → Limited g past q 18 (g .facts .opening .S1) sms
+  row-S1 : eqb q 3 ≡ true → Limited g past q 18 (o .S1) sms
   row-S1 e = S1 (eqb-true q 3 e)
 
   -- found by what each row says, wherever it stands
   pub limited : Each (λ r. r .applies ≡ true → Limited g past q (r .number) (r .most) (r .kind)) limitsOn
-  unfolding limits tells on
+  unfolding limits tells
   limited = search (row-N1, row-F1, row-F2, row-F3, row-F4, row-A1, row-S1)

@@ -2,7 +2,7 @@
 -- Nothing here says which rows there are. Assumes nothing.
 use Prim.Native.Nat.{ℕ, suc, _≤_, _<_}
 use mathlib.Core.Path.{_≡_, refl, ap}
-use mathlib.Core.Bool.{Bool, true, false, cond, _&&_, false≢true}
+use mathlib.Core.Bool.{Bool, true, false, cond, false≢true}
 use mathlib.Core.List.{List, [], _∷_}
 use mathlib.Core.Logic.{_≢_}
 use lib.Dec.{eqb}
@@ -12,6 +12,7 @@ use Rattle.rules.specs.Calls.{answer}
 use Rattle.rules.specs.Tables.{rank, reset}
 use Rattle.rules.specs.Rules.{Limit, limit, limits, blocks, blockedBy, firstBlock}
 use Rattle.rules.specs.State.{State, Facts}
+use Rattle.rules.proofs.Checks.{and-left}
 
 -- of every row of a table
 abbrev pub Each : (Limit → Type 0) → List Limit → Type 0
@@ -80,11 +81,7 @@ each-other n (r ∷ rs) h = ((λ e. omega (arith, h .0, ap rank e)), each-other 
 
 pub applies-blocking : (w : State) (t : ℕ) (r : Limit) → blocks w t r ≡ true → r .applies ≡ true
 unfolding blocks
-applies-blocking w t r e = go (r .applies) _ e
-  where
-    go : (x y : Bool) → (x && y) ≡ true → x ≡ true
-    go true y e = refl
-    go false y e = e
+applies-blocking w t r e = and-left (r .applies) _ e
 
 module _ (w : State) (t : ℕ) where
   -- a row that is looked at before number n does not block
