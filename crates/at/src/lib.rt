@@ -1,6 +1,6 @@
-// AT lines: what a line says, as an order. `read` is for everyone else: it has a reader, which keeps
-// the line and its place in it, read the name, move past it and read on. The reading itself is done
-// by functions on line and place. Assumes nothing.
+// AT lines: what a line says, as an order. `read` is for everyone else: it has a reader, which
+// keeps the line and its place in it, read the name, move past it and read on. The reading itself
+// is done by functions on line and place. Assumes nothing.
 use text::Num;
 use text::decimal;
 ghost use mathlib.Core.Path.{_≡_};

@@ -1,4 +1,5 @@
--- A refused call changes nothing in any buffer that it was lent, whatever these hold. Assumes nothing.
+-- A refused call changes nothing in any buffer that it was lent, whatever these hold. Assumes
+-- nothing.
 use mathlib.Core.Path.{_≡_, refl, sym, ap, _∙_}
 use mathlib.Core.Bool.{Bool, true, false, cond, not, _&&_}
 use mathlib.Core.List.{List}

@@ -51,7 +51,8 @@ same-six l m e C-PDP-2 = e 3 (lit< tt)
 same-six l m e C-PDP-3 = e 4 (lit< tt)
 same-six l m e C-PDP-4 = e 5 (lit< tt)
 
--- an accepted opening holds what rules: the bytes of each of the card's files, or of the module's own
+-- an accepted opening holds what rules: the bytes of each of the card's files, or of the module's
+-- own
 pub files-rule : (b : List ℕ) (o : Order) (r : Answer) (x : List ℕ) → Typed o → OpenSays b o r x → r .number ≡ 0 → Ruled o x
 files-rule b o r x t s z = opened-rules b o (ap (λ (a : Answer). a .number) (sym (s .answered)) ∙ z) t r x s
 

@@ -1,5 +1,5 @@
--- What is promised of a buffer over time: the lists grow by a permit, a blocked request asked again,
--- and demand 3 after anything that was done. Assumes nothing.
+-- What is promised of a buffer over time: the lists grow by a permit, a blocked request asked
+-- again, and demand 3 after anything that was done. Assumes nothing.
 use mathlib.Core.Path.{_≡_}
 use mathlib.Core.Bool.{true, false}
 use mathlib.Core.List.{List, [], _∷_, _++_}

@@ -1,5 +1,6 @@
 -- Demand 3: whoever answers as the rules do over the record keeps it, and what a buffer holds, the
--- newest 255 of each list, does; whoever keeps its sentences answers as the rules do. Assumes nothing.
+-- newest 255 of each list, does; whoever keeps its sentences answers as the rules do. Assumes
+-- nothing.
 use Prim.Native.Nat.{ℕ, _+_, _-_, _≤_, _<_}
 use mathlib.Core.Path.{_≡_, refl, ap, _∙_}
 use mathlib.Core.Bool.{false}

@@ -1,6 +1,6 @@
--- The rules give each number exactly when document 01's table of numbers says, over any record whose
--- permits rise: what they answer is given by a line of it, and what a line gives they answer. So no
--- call is given two answers. Assumes nothing.
+-- The rules give each number exactly when document 01's table of numbers says, over any record
+-- whose permits rise: what they answer is given by a line of it, and what a line gives they answer.
+-- So no call is given two answers. Assumes nothing.
 use Prim.Native.Nat.{ℕ, suc, _+_, _-_, _≤_, _<_}
 use mathlib.Core.Path.{_≡_, refl, sym, ap, _∙_}
 use mathlib.Core.Bool.{Bool, true, false, cond, _&&_, false≢true}

@@ -1,6 +1,6 @@
--- Document 01's idle versions, over one record: S1 is 1, an SMS was permitted at 0 and granted at 1.
--- Whoever always permits, always blocks, never backs off, or answers as if nothing had been called
--- yet, does not keep the sentences of demand 3. Assumes nothing.
+-- Document 01's idle versions, over one record: S1 is 1, an SMS was permitted at 0 and granted at
+-- 1. Whoever always permits, always blocks, never backs off, or answers as if nothing had been
+-- called yet, does not keep the sentences of demand 3. Assumes nothing.
 use Prim.Native.Nat.{ℕ, _≤_}
 use mathlib.Core.Path.{_≡_, refl, ap}
 use mathlib.Core.List.{List, [], _∷_}

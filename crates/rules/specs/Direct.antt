@@ -54,8 +54,8 @@ module _ (g : State) (past : List Entry) where
     pub not-below : lastTime g past ≤ t
     pub not-above : t ≤ highestTime
 
-  -- 4: "Requests 0-3 need standing 0", "Request 4 needs service 2 up", "Request 5 fits any standing";
-  -- "Granted, rejected and silent need standing 1", "Dropped needs service 2 up"
+  -- 4: "Requests 0-3 need standing 0", "Request 4 needs service 2 up", "Request 5 fits any
+  -- standing"; "Granted, rejected and silent need standing 1", "Dropped needs service 2 up"
   abbrev pub Fits : Event → Type 0
   Fits (ask q) = (q ≤ 3 → standing g q past ≡ 0) × (q ≡ 4 → standing g 2 past ≡ 2)
   Fits (outcome s o) = standing g s past ≡ 1
@@ -85,8 +85,8 @@ module _ (g : State) (past : List Entry) where
     A1 : (q ≡ 0) ⊎ (q ≡ 1) → Limited q 17 (opening .A1) attach
     S1 : q ≡ 3 → Limited q 18 (opening .S1) sms
 
-  -- a permit at t would be one too many: "zero disables the limit", and with the permit more than L of
-  -- list k are in the hour of t
+  -- a permit at t would be one too many: "zero disables the limit", and with the permit more than L
+  -- of list k are in the hour of t
   pub record Over (t L : ℕ) (k : Kind) : Type 0 where
     pub above : 0 < L
     pub over : L < inHour t (permits g k past ++ (t ∷ []))
@@ -135,8 +135,8 @@ module _ (g : State) (past : List Entry) where
     -- 10: "back-off runs, requests 0-3", "seconds left"
     held : {t q : ℕ} → Accepted t (ask q) → q ≤ 3 → t < backOffEnd g q past → Given (timed t (ask q)) (answer 10 (backOffEnd g q past - t))
     -- "Then 10, and of the limits that apply: 11, 13, 14, 15, 16, 17, 18; the first alone acts"
-    -- with "the permit time L places from the newest .. plus 3,600, less now", which are the seconds
-    -- until it would permit
+    -- with "the permit time L places from the newest .. plus 3,600, less now", which are the
+    -- seconds until it would permit
     blocked : {t q n L : ℕ} {k : Kind} → Accepted t (ask q) → Free t q → Limited q n L k → Over t L k
         → ((n' L' : ℕ) (k' : Kind) → rank n' < rank n → Limited q n' L' k' → Over t L' k' → ⊥)
         → Until t L k (freeIn t L (permits g k past)) → Given (timed t (ask q)) (answer n (freeIn t L (permits g k past)))
