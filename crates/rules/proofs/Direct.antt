@@ -1,5 +1,5 @@
--- Whoever gives each number when its line says keeps the sentences of demand 3: they follow from
--- the lines alone, without the rules. Assumes nothing.
+-- Whoever gives each number when its line says keeps the sentences of demand 3, over any record
+-- whose permits rise: they follow from the lines, without the rules. Assumes nothing.
 use Prim.Native.Nat.{ℕ, _≤_, _<_}
 use mathlib.Core.Path.{_≡_, refl, sym, _∙_}
 use mathlib.Core.Bool.{Bool, true, false, false≢true}
