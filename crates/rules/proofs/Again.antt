@@ -20,7 +20,7 @@ use Rattle.rules.specs.Demand3.{Again}
 use Rattle.rules.proofs.Among.{among-all, not-among}
 use Rattle.rules.proofs.Checks.{refusal-low, in-range, on-time, fits, passes}
 use Rattle.rules.proofs.Groups.{four-path}
-use Rattle.rules.proofs.Newest.{Rising, rising-more, within-late, blocks-full}
+use Rattle.rules.proofs.Newest.{Rising, rising-more, within-late, blocks-full, full-blocks}
 use Rattle.rules.proofs.Hour.{rolling-hour}
 use Rattle.rules.proofs.Leaving.{full-leaves}
 use Rattle.rules.proofs.Rows.{Each, Ordered, ordered, each-other}
@@ -28,10 +28,6 @@ use Rattle.rules.proofs.Given.{Rises}
 use Rattle.rules.proofs.Demand3.{Starts, rises, onward-append}
 
 -- ---- A limit, by how many are in the hour
-
-full-blocks : (w : State) (t : ℕ) (r : Limit) → r .applies ≡ true → 0 < r .most → r .most ≤ inHour t (w .lists (r .kind)) → blocks w t r ≡ true
-unfolding blocks
-full-blocks w t r h m n = rw (h, lt-ltb 0 (r .most) m, le-leb (r .most) (inHour t (w .lists (r .kind))) n)
 
 few-frees : (w : State) (t : ℕ) (r : Limit) → inHour t (w .lists (r .kind)) < r .most → blocks w t r ≡ false
 unfolding blocks

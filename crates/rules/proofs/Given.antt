@@ -19,9 +19,9 @@ use Rattle.rules.specs.Rules.{Limit, blocks, blockedBy, firstBlock, inRa
 use Rattle.rules.specs.Told.{tells, ruled}
 use Rattle.rules.specs.Direct.{Accepted, Limited, Over, Until, WithinLimits, Free, nextWait, Given, permitted, on-grant, on-drop, on-tick, on-line, out-of-range, out-of-time, wrong-standing, not-as-above, held, blocked, backed-off, in-its-place, other-action}
 use Rattle.rules.proofs.Groups.{of-four}
-use Rattle.rules.proofs.Newest.{Rising, rising-more, within-late, blocks-full}
+use Rattle.rules.proofs.Newest.{Rising, rising-more, within-late, blocks-full, full-blocks}
 use Rattle.rules.proofs.Leaving.{full-leaves}
-use Rattle.rules.proofs.Rows.{Each, each-map, named, named-number, each-named, ordered, applies-blocking, Before, first-none, first-named, Found, none, some, find}
+use Rattle.rules.proofs.Rows.{Each, each-map, named, named-number, each-named, ordered, Before, first-none, first-named, Found, none, some, find}
 use Rattle.rules.proofs.Limited.{limitsOn, applying, listed, limited}
 use Rattle.rules.proofs.Accepting.{not-true, ranges, ranged, service-low, timing, timed-in, fitting, fitted, refused-2, refused-3, refused-4, accepted-verdict, as-above, line-done, line-refused}
 
@@ -48,10 +48,8 @@ module _ (g : State) (past : List Entry) where
       record { above = f .above; over = rw (in-hour-more u (permits g (r .kind) past)) (omega (arith, f .over)) }
 
   pub over-blocks : (u : ℕ) (r : Limit) → r .applies ≡ true → Over g past u (r .most) (r .kind) → blocks (tells g past) u r ≡ true
-  unfolding tells blocks
-  over-blocks u r a v =
-      let l = permits g (r .kind) past in
-      rw (a, lt-ltb 0 (r .most) (v .above), le-leb (r .most) (inHour u l) (omega (arith, rw (in-hour-more u l) at (v .over))))
+  unfolding tells
+  over-blocks u r a v = full-blocks (tells g past) u r a (v .above) (omega (arith, rw (in-hour-more u (permits g (r .kind) past)) at (v .over)))
 
   -- and then its answer tells the seconds until it permits
   until : Rises g past → (t : ℕ) → lastTime g past ≤ t → (r : Limit) → blocks (tells g past) t r ≡ true
@@ -100,7 +98,7 @@ module _ (g : State) (past : List Entry) where
 
       -- a row that does not apply, or would not be broken, does not block
       not-over : (r : Limit) → (r .applies ≡ true → Over g past t (r .most) (r .kind) → ⊥) → blocks (tells g past) t r ≡ false
-      not-over r h = not-true (blocks (tells g past) t r) (λ e. h (applies-blocking (tells g past) t r e) (blocks-over t r e))
+      not-over r h = not-true (blocks (tells g past) t r) (λ e. h (blocks-full (tells g past) t r e .applies) (blocks-over t r e))
 
       -- a limit that would be broken blocks
       breaks : (n L : ℕ) (k : Kind) → Limited g past q n L k → Over g past t L k → blocks (tells g past) t (named n (limitsOn g past q)) ≡ true
@@ -145,7 +143,7 @@ module _ (g : State) (past : List Entry) where
               let keeps : WithinLimits g past t q = λ n L k l. unbroken (λ r. blocks w t r ≡ false) h n L k l (λ e. e) in
               rw (request-permitted free keeps) (permitted a free keeps)
           by free (some n b h) =
-              let is = applies-blocking w t (named n rs) b in
+              let is = blocks-full w t (named n rs) b .applies in
               let l = each-named _ n rs (limited g past q) is is in
               let lower : (n' L' : ℕ) (k' : Kind) → rank n' < rank (named n rs .number) → Limited g past q n' L' k' → Over g past t L' k' → ⊥ =
               λ n' L' k' c l'. unbroken (Before w t n) h n' L' k' l' (λ x. x (omega (arith, c, ap rank (named-number n rs), ap rank (named-number n' rs)))) in

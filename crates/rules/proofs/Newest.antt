@@ -151,6 +151,11 @@ blocks-full w t r e =
       listed = omega (arith, n, few t l);
     }
 
+-- and one of which that holds blocks
+pub full-blocks : (w : State) (t : ℕ) (r : Limit) → r .applies ≡ true → 0 < r .most → r .most ≤ inHour t (w .lists (r .kind)) → blocks w t r ≡ true
+unfolding blocks
+full-blocks w t r h m n = rw (h, lt-ltb 0 (r .most) m, le-leb (r .most) (inHour t (w .lists (r .kind))) n)
+
 -- ---- The ruling is the same over the newest 255
 
 module _ (w : State) (s : Sound w) (t : ℕ) (late : w .facts .last ≤ t) where

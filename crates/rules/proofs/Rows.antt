@@ -12,7 +12,7 @@ use Rattle.rules.specs.Calls.{answer}
 use Rattle.rules.specs.Tables.{rank, reset}
 use Rattle.rules.specs.Rules.{Limit, limit, limits, blocks, blockedBy, firstBlock}
 use Rattle.rules.specs.State.{State, Facts}
-use Rattle.rules.proofs.Checks.{and-left}
+use Rattle.rules.proofs.Newest.{blocks-full}
 
 -- of every row of a table
 abbrev pub Each : (Limit → Type 0) → List Limit → Type 0
@@ -79,10 +79,6 @@ each-other n (r ∷ rs) h = ((λ e. omega (arith, h .0, ap rank e)), each-other 
 
 -- ---- The first that blocks
 
-pub applies-blocking : (w : State) (t : ℕ) (r : Limit) → blocks w t r ≡ true → r .applies ≡ true
-unfolding blocks
-applies-blocking w t r e = and-left (r .applies) _ e
-
 module _ (w : State) (t : ℕ) where
   -- a row that is looked at before number n does not block
   abbrev pub Before : ℕ → Limit → Type 0
@@ -91,7 +87,7 @@ module _ (w : State) (t : ℕ) where
   -- a row that blocks is looked at after those before it
   later : (r : Limit) (n : ℕ) (rs : List Limit) → Each (λ x. rank (r .number) < rank (x .number)) rs → blocks w t (named n rs) ≡ true
       → rank (r .number) < rank n
-  later r n rs o b = rw (named-number n rs) at (each-named (λ x. rank (r .number) < rank (x .number)) n rs o (applies-blocking w t (named n rs) b))
+  later r n rs o b = rw (named-number n rs) at (each-named (λ x. rank (r .number) < rank (x .number)) n rs o (blocks-full w t (named n rs) b .applies))
 
   pub first-none : (rs : List Limit) → Each (λ r. blocks w t r ≡ false) rs → firstBlock w t rs ≡ answer 0 0
   first-none [] h = refl
@@ -99,7 +95,7 @@ module _ (w : State) (t : ℕ) where
 
   pub first-named : (n : ℕ) (rs : List Limit) → Ordered rs → blocks w t (named n rs) ≡ true → Each (Before n) rs
       → firstBlock w t rs ≡ blockedBy w t (named n rs)
-  first-named n [] o b h = absurd (false≢true (applies-blocking w t (named n []) b))
+  first-named n [] o b h = absurd (false≢true (blocks-full w t (named n []) b .applies))
   first-named n (r ∷ rs) o b h = go (eqb (r .number) n) b (λ c. first-named n rs (o .1 .1) c (h .1))
     where
       go : (x : Bool) → blocks w t (cond x r (named n rs)) ≡ true → (blocks w t (named n rs) ≡ true → firstBlock w t rs ≡ blockedBy w t (named n rs))
