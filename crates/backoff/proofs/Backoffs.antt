@@ -5,6 +5,7 @@ use mathlib.Core.List.{List}
 use Prim.Native.Nat.{ℕ, _+_, _-_, _*_, _%_, _^_, _≤_, _<_, min}
 use native.Mathlib.Omega.{arith}
 use lib.Dec.{eqb}
+use borrow.Author.Tests.{eq-eqb}
 use lib.ListN.{length, getD, set}
 use Rattle.mixing.specs.Mixing.{mixed, drawn}
 use Rattle.rules.specs.declared.Answer.{Answer}
@@ -103,7 +104,9 @@ waits b i h {n = n} u v e k d =
     ∙ ap (λ (n : ℕ). interval l (oneMore n) + drawn (factsOf b .opening .imsi) (oneMore n) % interval l (oneMore n)) same
 
 -- the end of a wait fits a place
+pub wait-fits : (b : List ℕ) → good b ≡ true → (t : ℕ) → t ≤ highestTime → (i : ℕ) {w : ℕ} → w ≡ wait (factsOf b) i → t + w < 4294967296
+wait-fits b g t late i e = omega (arith, e, wait-low (factsOf b) i (sane-of b g))
+
 pub end-fits : (b : List ℕ) → good b ≡ true → (t i n : ℕ) (a : Answer) → a ≡ failed (factsOf b) i n → t ≤ highestTime → a .number ≡ 20 → t + a .second < 4294967296
 end-fits b g t i n a e late k =
-    let w : a .second ≡ wait (factsOf b) i = ap (λ (x : Answer). x .second) e ∙ failed-wait (factsOf b) i n (rw (← e) k) in
-    omega (arith, wait-low (factsOf b) i (sane-of b g))
+    wait-fits b g t late i (ap (λ (x : Answer). x .second) e ∙ failed-wait (factsOf b) i n (rw (← e) (eq-eqb (a .number) 20 k)))

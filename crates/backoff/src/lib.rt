@@ -98,7 +98,7 @@ fn base(s: &[u32], n: u32) -> u32
 
 // How long service i waits after one failure more. A card draws the same from 15 failures on, so
 // the count for that need not stop at 255.
-fn wait(s: &[u32], i: usize) -> u32
+pub fn wait(s: &[u32], i: usize) -> u32
     requires { ⌜ length (now s) ≡ SIZE ⌝ }
     requires { ⌜ good (now s) ≡ true ⌝ }
     requires { ⌜ i < 4 ⌝ }

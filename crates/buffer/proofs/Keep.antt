@@ -15,10 +15,11 @@ use Rattle.rules.specs.declared.Event.{Event}
 use Rattle.rules.specs.declared.Event.the-variants.{Ask as ask, Outcome as outcome, Dropped as dropped, Tick as tick}
 use Rattle.rules.specs.declared.Outcome.the-variants.{Granted as granted, Silent as silent, Rejected as rejected}
 use Rattle.mixing.specs.Mixing.{drawn}
-use Rattle.rules.specs.Tables.{highestTime, Kind, among, counting, action, moodOn, oneMore, interval, waitFor, ascending, scheduled}
+use Rattle.rules.specs.Causes.{action, both, reaches}
+use Rattle.rules.specs.Tables.{highestTime, Kind, among, counting, moodOn, oneMore, interval, waitFor, ascending, scheduled, four}
 use Rattle.rules.specs.Rules.{check, refusal, wait, failed, verdict, ruling, refused, moved, raised, counted, asked, onGranted, onFailed, onOutcome, acted, switched, obeyed, changed, enters, adds, learn, newest, short, step}
 use Rattle.rules.specs.State.{State, Facts, Services, withCounters, withServices, withStanding, idle}
-use Rattle.rules.proofs.Checks.{accepted, on-time, in-time, passed-verdict, refused-adds, failed-wait, failed-on}
+use Rattle.rules.proofs.Checks.{accepted, on-time, in-time, passed-verdict, refused-adds, failed-backs}
 use Rattle.rules.proofs.Newest.{changed-keeps}
 use Rattle.buffer.specs.Good.{atMost, zeros, bytes, highestEnd, valid}
 use Rattle.rules.proofs.Checks.{and-left, and-right}
@@ -232,47 +233,46 @@ granted-sane n v s h = stands-at n cleared clear s (cond (eqb s 2) 2 0) (low (eq
         go true e = refl
         go false e = absurd (omega arith)
 
--- what an answer 20 says
-record Backs (n t : ℕ) (a : Answer) : Type 0 where
-  on : eqb n 1 ≡ true
-  end : t + a .second ≤ highestEnd
+-- four numbers, each at most hi
+four-most : (hi : ℕ) (f : ℕ → ℕ) → ((u : ℕ) → f u ≤ hi) → atMost hi (four f) ≡ true
+unfolding atMost
+four-most hi f h = rw (le-leb (f 0) hi (h 0), le-leb (f 1) hi (h 1), le-leb (f 2) hi (h 2), le-leb (f 3) hi (h 3))
 
--- silence or a rejection of service s at t, answered a
-failed-sane : (n : ℕ) (v : Services) (t s : ℕ) (a : Answer) (d : ℕ) → SaneServices n v → d ≤ 3 → (a .number ≡ 20 → Backs n t a) → SaneServices n (onFailed t s a d v)
-unfolding onFailed
-failed-sane n v t s a d h low k = go (eqb (a .number) 20) refl
-  where
-    mood-low : cond (eqb s 2) d (v .mood) ≤ 3
-    mood-low = cond-le (eqb s 2) d (v .mood) 3 low (h .mood)
+-- silence or a rejection of service s at t; `back` is whether those that it reaches back off
+module _ (f : Facts) (t s : ℕ) (back two : Bool) (d : ℕ) (h : SaneServices (f .mode .nfm) (f .services)) where
+  on-two : (b : Bool) → b ≡ false → (x y : ℕ) → cond (back && b) x y ≡ y
+  on-two b e x y = rw e (go back)
+    where
+      go : (z : Bool) → cond (z && false) x y ≡ y
+      go true = refl
+      go false = refl
 
-    idled : SaneServices n (withStanding v (set (v .standing) s 0))
-    idled = stands-low n v h s 0 (omega arith)
+  -- where service 2 is up afterwards, it was up before, and was not reached
+  still-up : (x : ℕ) → getD (set (f .services .standing) s 0) 2 0 ≡ 2 → cond (back && reaches two s 2) x (getD (f .services .ends) 2 0) ≡ 0
+  still-up x e = go (eqb s 2) two (rw (getD-set (f .services .standing) s 2 0 (omega (arith, h .four-standing))) at e)
+    where
+      go : (b z : Bool) → cond b 0 (getD (f .services .standing) 2 0) ≡ 2 → cond (back && cond z false b) x (getD (f .services .ends) 2 0) ≡ 0
+      go true z e = absurd (omega arith)
+      go false true e = on-two false refl x _ ∙ h .free e
+      go false false e = on-two false refl x _ ∙ h .free e
 
-    up-not : (b : Bool) (x y : ℕ) → cond b 0 (getD (v .standing) 2 0) ≡ 2 → y ≡ 0 → cond b x y ≡ 0
-    up-not true x y e z = absurd (omega arith)
-    up-not false x y e z = z
-
-    go : (b : Bool) → eqb (a .number) 20 ≡ b → SaneServices n (record {
-      failures = cond b (set (v .failures) s (oneMore (getD (v .failures) s 0))) (v .failures);
-      ends = cond b (set (v .ends) s (t + a .second)) (v .ends);
-      standing = set (v .standing) s 0;
-      mood = cond (eqb s 2) d (v .mood);
-    })
-    go true e =
-        let y = k (eqb-true (a .number) 20 e) in
-        let stand = getD-set (v .standing) s 2 0 (omega (arith, h .four-standing)) in
-        let more = oneMore (getD (v .failures) s 0) in
-        with-failures n (withStanding v (set (v .standing) s 0)) idled (set (v .failures) s more) (set (v .ends) s (t + a .second)) (cond (eqb s 2) d (v .mood))
-        (length-set (v .failures) s more ∙ h .four-failures)
-        (at-most-set 255 (v .failures) s more (h .failures) (omega arith))
-        (length-set (v .ends) s (t + a .second) ∙ h .four-ends)
-        (at-most-set highestEnd (v .ends) s (t + a .second) (h .ends) (y .end))
-        (λ z. absurd (false≢true (sym z ∙ y .on)))
-        (λ z. getD-set (v .ends) s 2 (t + a .second) (omega (arith, h .four-ends)) ∙ up-not (eqb s 2) (t + a .second) (getD (v .ends) 2 0) (rw stand at z) (idled .free z))
-        mood-low
-    go false e =
-        with-failures n (withStanding v (set (v .standing) s 0)) idled (v .failures) (v .ends) (cond (eqb s 2) d (v .mood))
-        (h .four-failures) (h .failures) (h .four-ends) (h .ends) (h .off) (idled .free) mood-low
+  failed-sane : d ≤ 3 → (back ≡ true → eqb (f .mode .nfm) 1 ≡ true) → ((u : ℕ) → t + wait f u ≤ highestEnd) → SaneServices (f .mode .nfm) (onFailed t s back two d f)
+  unfolding onFailed
+  failed-sane low on early =
+      let v = f .services in
+      with-failures (f .mode .nfm) (withStanding v (set (v .standing) s 0)) (stands-low (f .mode .nfm) v h s 0 (omega arith)) _ _ (cond (eqb s 2) d (v .mood))
+      refl
+      (four-most 255 _ (λ u. cond-le (back && reaches two s u) (oneMore (getD (v .failures) u 0)) _ 255 (omega arith) (at-most 255 (v .failures) (h .failures) u)))
+      refl
+      (four-most highestEnd _ (λ u. cond-le (back && reaches two s u) _ _ highestEnd (early u) (at-most highestEnd (v .ends) (h .ends) u)))
+      (λ e. off back refl e)
+      (still-up (t + wait f 2))
+      (cond-le (eqb s 2) d (v .mood) 3 low (h .mood))
+    where
+      off : (b : Bool) → back ≡ b → eqb (f .mode .nfm) 1 ≡ false
+          → zeros (four (λ u. cond (back && reaches two s u) (t + wait f u) (getD (f .services .ends) u 0))) ≡ true
+      off true p e = absurd (false≢true (sym e ∙ on p))
+      off false p e = rw p (four-most 0 (λ u. getD (f .services .ends) u 0) (at-most 0 (f .services .ends) (h .off e)))
 
 -- ---- Facts: the clock, the counters, the services
 
@@ -326,12 +326,10 @@ wait-low f s h =
     let m = mod-lt (drawn (f .opening .imsi) n) {m = interval l n} (omega (arith, r .0)) in
     omega (arith, r .1, m)
 
-backs : (f : Facts) (t s n : ℕ) → Sane f → t ≤ highestTime → (a : Answer) → a ≡ failed f s n → a .number ≡ 20 → Backs (moved t f .mode .nfm) t a
+-- an answer 20 tells that NFM is 1
+on-backs : (f : Facts) (t s n : ℕ) (a : Answer) → a ≡ failed f s n → eqb (a .number) 20 ≡ true → eqb (moved t f .mode .nfm) 1 ≡ true
 unfolding moved
-backs f t s n h g a e k =
-    let is : failed f s n .number ≡ 20 = rw (← e) k in
-    let w : a .second ≡ wait f s = ap (λ (x : Answer). x .second) e ∙ failed-wait f s n is in
-    record { on = failed-on f s n is; end = omega (arith, wait-low f s h) }
+on-backs f t s n a e k = and-right (eqb n 20) _ (sym (failed-backs f s n) ∙ (rw e at k))
 
 -- ---- Events
 
@@ -350,11 +348,15 @@ acted-sane v t e h p g a d = go e d
         → Sane (withServices (moved t (v .facts)) u)
     served u w = with-sane (moved t (v .facts)) (moved t (v .facts) .counters) u m (m .counters) w
 
+    ends : (u : ℕ) → t + wait (moved t (v .facts)) u ≤ highestEnd
+    ends u = omega (arith, wait-low (moved t (v .facts)) u m)
+
     go : (e : Event) → a ≡ verdict v (timed t e) → Sane (acted t e a (moved t (v .facts)))
     go (ask q) d = with-sane (moved t (v .facts)) _ _ m (counted-sane (a .number) _ (m .counters)) (asked-sane _ _ (m .services) q (eqb (a .number) 0))
     go (outcome s granted) d = served _ (granted-sane _ _ s (m .services))
-    go (outcome s silent) d = served _ (failed-sane _ _ t s a 1 (m .services) (omega arith) (backs (v .facts) t s 20 h g a d))
-    go (outcome s (rejected cause second)) d = served _ (failed-sane _ _ t s a (moodOn cause) (m .services) (mood-on cause) (backs (v .facts) t s (action s cause second) h g a d))
+    go (outcome s silent) d = served _ (failed-sane (moved t (v .facts)) t s _ false 1 (m .services) (omega arith) (on-backs (v .facts) t s 20 a d) ends)
+    go (outcome s (rejected cause second column)) d =
+        served _ (failed-sane (moved t (v .facts)) t s _ (both column cause) (moodOn cause) (m .services) (mood-on cause) (on-backs (v .facts) t s (action column cause second) a d) ends)
     go dropped d = served _ (stands-low _ _ (m .services) 2 0 (omega arith))
     go tick d = m
 

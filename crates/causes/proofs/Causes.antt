@@ -1,63 +1,127 @@
--- The actions of causes, and the moods. Assumes nothing.
+-- The actions of causes by their entries, and the moods. Assumes nothing.
 use mathlib.Core.Path.{_≡_, refl, sym, ap, _∙_}
-use mathlib.Core.Bool.{Bool, true, false, cond, not, _||_}
+use mathlib.Core.Bool.{Bool, true, false, cond, _&&_, _||_, false≢true}
 use mathlib.Core.List.{[], _∷_}
-use Prim.Native.Nat.{ℕ, _≤_, _<_}
+use mathlib.Core.Logic.{_≢_}
+use Prim.Native.Nat.{ℕ, _-_, _≤_}
 use native.Mathlib.Omega.{arith}
 use lib.Dec.{leb, eqb}
-use borrow.Author.Tests.{leb-true, ne-eqb}
-use Rattle.rules.specs.Tables.{among, action, moodOn}
+use lib.ListN.{getD}
+use borrow.Author.Tests.{leb-true, eqb-true, ne-eqb}
+use Rattle.rules.specs.Tables.{moodOn}
+use Rattle.rules.specs.Causes.{Action, back-off, both-back-off, re-attach, other-network, as-3GPP, not-same-PLMN, not-same-area, not-same-cell, reactivate, re-establish, printed, numberOf, ofBoth, action, both}
 use Rattle.rules.proofs.Among.{tests-among}
+use Rattle.rules.proofs.Checks.{and-left, and-right}
+use Rattle.causes.specs.Tables.{plain, spelled, numbers, means}
 
 -- ---- The actions
 
-acts-low : (o x y z w : Bool) → 20 ≤ cond o 20 (cond x 20 (cond y 21 (cond z (cond w 22 20) 23)))
-acts-low true x y z w = omega arith
-acts-low false true y z w = omega arith
-acts-low false false true z w = omega arith
-acts-low false false false true true = omega arith
-acts-low false false false true false = omega arith
-acts-low false false false false w = omega arith
+-- what an entry tells
+abbrev pub told : ℕ → ℕ → ℕ
+told e second = cond (eqb e plain) 23 (cond (eqb e 57) 20 (cond (eqb e 50) (cond (eqb second 1) 22 20) (e - 28)))
 
--- the causes that back off, as in `action`
-abbrev backs-off : ℕ → Bool
-backs-off k = among k (8 ∷ 26 ∷ 27 ∷ 29 ∷ 30 ∷ 31 ∷ 32 ∷ 33 ∷ 35 ∷ [])
+tells : (x : Action) (second : ℕ) → told (spelled x) second ≡ numberOf x second
+tells back-off second = refl
+tells both-back-off second = refl
+tells re-attach second = refl
+tells other-network second = refl
+tells as-3GPP second = refl
+tells not-same-PLMN second = refl
+tells not-same-area second = refl
+tells not-same-cell second = refl
+tells reactivate second = refl
+tells re-establish second = refl
 
-pub action-low : (i cause second : ℕ) → 20 ≤ action i cause second
+pub entry-tells : (column cause second : ℕ) {e : ℕ} → e ≡ spelled (printed column cause .action) → told e second ≡ action column cause second
 unfolding action
-action-low i cause second = acts-low (not (eqb i 2)) (backs-off cause) (eqb cause 28) (eqb cause 34) (eqb second 1)
+entry-tells column cause second p = ap (λ (e : ℕ). told e second) p ∙ tells (printed column cause .action) second
 
--- causes beyond the table
-pub action-beyond : (k second : ℕ) → 63 < k → 23 ≡ action 2 k second
-unfolding action
-action-beyond k second h = rw (no 8 refl, no 26 refl, no 27 refl, no 29 refl, no 30 refl, no 31 refl, no 32 refl, no 33 refl, no 35 refl, no 28 refl, no 34 refl)
+pub tells-both : (x : Action) → eqb (spelled x) 57 ≡ ofBoth x
+tells-both back-off = refl
+tells-both both-back-off = refl
+tells-both re-attach = refl
+tells-both other-network = refl
+tells-both as-3GPP = refl
+tells-both not-same-PLMN = refl
+tells-both not-same-area = refl
+tells-both not-same-cell = refl
+tells-both reactivate = refl
+tells-both re-establish = refl
+
+-- an entry is no less than `.`
+pub entry-low : (x : Action) → 46 ≤ spelled x
+entry-low back-off = omega arith
+entry-low both-back-off = omega arith
+entry-low re-attach = omega arith
+entry-low other-network = omega arith
+entry-low as-3GPP = omega arith
+entry-low not-same-PLMN = omega arith
+entry-low not-same-area = omega arith
+entry-low not-same-cell = omega arith
+entry-low reactivate = omega arith
+entry-low re-establish = omega arith
+
+-- ---- The numbers of actions
+
+-- none is below 20
+number-low : (x : Action) (second : ℕ) → 20 ≤ numberOf x second
+number-low back-off second = omega arith
+number-low both-back-off second = omega arith
+number-low re-attach second = omega arith
+number-low other-network second = go (eqb second 1)
   where
-    no : (n : ℕ) → leb n 63 ≡ true → eqb k n ≡ false
-    no n l = let m = leb-true n 63 l in ne-eqb k n (λ z. omega arith)
+    go : (b : Bool) → 20 ≤ cond b 22 20
+    go true = omega arith
+    go false = omega arith
+number-low as-3GPP second = omega arith
+number-low not-same-PLMN second = omega arith
+number-low not-same-area second = omega arith
+number-low not-same-cell second = omega arith
+number-low reactivate second = omega arith
+number-low re-establish second = omega arith
 
--- where the table has no 22 the flag does not matter, and where it has, the flag decides
-acts-other : (n : ℕ) (x y z w : Bool) → n ≡ cond x 20 (cond y 21 (cond z 22 23)) → (n ≡ 22 → ⊥)
-    → n ≡ cond x 20 (cond y 21 (cond z (cond w 22 20) 23))
-acts-other n true y z w e h = e
-acts-other n false true z w e h = e
-acts-other n false false true w e h = absurd (h e)
-acts-other n false false false w e h = e
+pub action-low : (column cause second : ℕ) → 20 ≤ action column cause second
+unfolding action
+action-low column cause second = number-low (printed column cause .action) second
 
-acts-22 : (n : ℕ) (x y z w : Bool) → n ≡ cond x 20 (cond y 21 (cond z 22 23)) → n ≡ 22
-    → _≡_ {A = ℕ} (cond w 22 20) (cond x 20 (cond y 21 (cond z (cond w 22 20) 23)))
-acts-22 n true y z w e h = absurd (omega arith)
-acts-22 n false true z w e h = absurd (omega arith)
-acts-22 n false false true w e h = refl
-acts-22 n false false false w e h = absurd (omega arith)
+-- where both registrations back off it is 20
+number-both : (x : Action) (second : ℕ) → ofBoth x ≡ true → numberOf x second ≡ 20
+number-both back-off second e = refl
+number-both both-back-off second e = refl
+number-both re-attach second e = absurd (false≢true e)
+number-both other-network second e = absurd (false≢true e)
+number-both as-3GPP second e = absurd (false≢true e)
+number-both not-same-PLMN second e = absurd (false≢true e)
+number-both not-same-area second e = absurd (false≢true e)
+number-both not-same-cell second e = absurd (false≢true e)
+number-both reactivate second e = absurd (false≢true e)
+number-both re-establish second e = absurd (false≢true e)
 
-module _ (n cause second : ℕ) (e : n ≡ action 2 cause 1) where
-  pub action-other : (n ≡ 22 → ⊥) → n ≡ action 2 cause second
-  unfolding action
-  action-other = acts-other n (backs-off cause) (eqb cause 28) (eqb cause 34) (eqb second 1) e
+pub action-both : (column cause second : ℕ) → both column cause ≡ true → action column cause second ≡ 20
+unfolding action both
+action-both column cause second = number-both (printed column cause .action) second
 
-  pub action-22 : n ≡ 22 → cond (eqb second 1) 22 20 ≡ action 2 cause second
-  unfolding action
-  action-22 = acts-22 n (backs-off cause) (eqb cause 28) (eqb cause 34) (eqb second 1) e
+-- ---- The error numbers
+
+pub record Means (e n : ℕ) : Type 0 where
+  pub low : 97 ≤ e
+  pub high : e ≤ 121
+  pub is : getD numbers (e - 97) 0 ≡ n
+
+pub means-none : (e n : ℕ) → e ≡ plain → means e n ≡ true → n ≡ 0
+unfolding means
+means-none e n h m = eqb-true n 0 (rw h at m)
+
+pub means-one : (e n : ℕ) → e ≢ plain → means e n ≡ true → Means e n
+unfolding means
+means-one e n h m =
+    let t = rw (ne-eqb e plain h) at m in
+    let range = and-left (leb 97 e && leb e 121) _ t in
+    record {
+      low = leb-true 97 e (and-left (leb 97 e) _ range);
+      high = leb-true e 121 (and-right (leb 97 e) _ range);
+      is = eqb-true _ n (and-right (leb 97 e && leb e 121) _ t);
+    }
 
 -- ---- The moods
 

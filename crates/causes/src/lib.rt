@@ -1,104 +1,174 @@
-// What to do on a cause that the network gives, and what it means for the mood of service 2. No
-// buffer is known here.
+// What to do on a cause that the network gives, the CME or CMS number beside it, and what it means
+// for the mood of service 2. No buffer is known here. A column is 0 MM, 1 GMM, 2 SM, 3 RP, 4 CP.
+use rules::Answer;
 ghost use mathlib.Core.Path.{_≡_};
-ghost use Prim.Native.Nat.{_<_};
-ghost use Rattle.rules.specs.Tables.{action, moodOn};
+ghost use mathlib.Core.Bool.{true};
+ghost use Rattle.rules.specs.Tables.{moodOn};
+ghost use Rattle.rules.specs.Causes.{printed, action, both};
+ghost use Rattle.causes.specs.Tables.{entryAt, spelled, means, errorFor};
 
-// The actions of SM causes 0 to 63 where another network is there: 20 back off, 21 re-attach, 22
-// other network, 23 as 3GPP says.
-const ACTIONS: [u32; 64] = [
-    23,
-    23,
-    23,
-    23,
-    23,
-    23,
-    23,
-    23,
-    20,
-    23,
-    23,
-    23,
-    23,
-    23,
-    23,
-    23,
-    23,
-    23,
-    23,
-    23,
-    23,
-    23,
-    23,
-    23,
-    23,
-    23,
-    20,
-    20,
-    21,
-    20,
-    20,
-    20,
-    20,
-    20,
-    22,
-    20,
-    23,
-    23,
-    23,
-    23,
-    23,
-    23,
-    23,
-    23,
-    23,
-    23,
-    23,
-    23,
-    23,
-    23,
-    23,
-    23,
-    23,
-    23,
-    23,
-    23,
-    23,
-    23,
-    23,
-    23,
-    23,
-    23,
-    23,
-    23,
-];
-
-// The table's action of a cause.
-fn listed(cause: u32) -> u32
-    requires { ⌜ cause < 64 ⌝ }
-    ensures { λ r. ⌜ r ≡ action 2 cause 1 ⌝ }
+// The entry of a cause in a table; of one beyond it, that of a cause without a row.
+fn at(table: &[u8], cause: u32) -> u8
+    ensures { λ r. ⌜ r ≡ entryAt (now (table .entry)) cause ⌝ }
 {
-    ACTIONS[cause as usize]
+    let i = cause as usize;
+    if i < table.len() {
+        return table[i];
+    }
+    b'.'
 }
 
-// What to do on a cause of a service; second is 1 where another network is there.
-pub fn action(service: u32, cause: u32, second: u32) -> u32
-    ensures { λ r. ⌜ r ≡ action service cause second ⌝ }
+// The action of a cause, as the tables spell it: `.` is as 3GPP says, 9 both registrations back off,
+// any other digit the last of its number where a second network is there.
+fn entry(column: u32, cause: u32) -> u8
+    ensures { λ r. ⌜ r ≡ spelled (printed column cause .action) ⌝ }
 {
-    if service != 2 {
-        return 20;
+    if column == 0 {
+        return at(
+            b"..00.00.99.455.6.0....0...........0.............................",
+            cause,
+        );
     }
-    if 63 < cause {
+    if column == 1 {
+        return at(
+            b"..99..9099.4554600....0.........................................",
+            cause,
+        );
+    }
+    if column == 2 {
+        return at(
+            b"........0.................00100000207.08........................",
+            cause,
+        );
+    }
+    if column == 3 {
+        return at(
+            b"........0.0..........00.....000.......0..00....0..0..................0...........0..............................................",
+            cause,
+        );
+    }
+    if column == 4 {
+        return at(
+            b".................0...0..........................................",
+            cause,
+        );
+    }
+    b'.'
+}
+
+// What to do on a cause; second is 1 where a second network is there.
+pub fn action(column: u32, cause: u32, second: u32) -> u32
+    ensures { λ r. ⌜ r ≡ action column cause second ⌝ }
+{
+    let e = entry(column, cause);
+    if e == b'.' {
         return 23;
     }
-    let n = listed(cause);
-    if n != 22 {
-        return n;
+    if e == b'9' {
+        return 20;
+    }
+    if e != b'2' {
+        return (e as u32) - 28;
     }
     if second == 1 {
         return 22;
     }
     20
+}
+
+// Whether both registrations back off on a cause.
+pub fn both(column: u32, cause: u32) -> bool
+    ensures { λ r. ⌜ r ≡ both column cause ⌝ }
+{
+    entry(column, cause) == b'9'
+}
+
+// The error numbers of the page, a to l CME and m to y CMS; 42 is both.
+const NUMBERS: [u32; 25] = [
+    42,
+    103,
+    106,
+    107,
+    111,
+    112,
+    113,
+    132,
+    133,
+    134,
+    149,
+    615,
+    8,
+    10,
+    21,
+    27,
+    28,
+    29,
+    30,
+    38,
+    41,
+    47,
+    50,
+    69,
+    81,
+];
+
+// The error number of a cause, as the tables spell it: `.` is none, a letter one of NUMBERS.
+fn letter(column: u32, cause: u32) -> u8
+    ensures { λ r. ⌜ means r (printed column cause .error) ≡ true ⌝ }
+{
+    if column == 0 {
+        return at(
+            b"...b..c....efg...l....a.........hij.............................",
+            cause,
+        );
+    }
+    if column == 1 {
+        return at(
+            b"...c..cd...efg...l....a.........................................",
+            cause,
+        );
+    }
+    if column == 2 {
+        return at(
+            b"...........................j.k..hij...l.........................",
+            cause,
+        );
+    }
+    if column == 3 {
+        return at(
+            b"........m.n..........op.....qrs.......t..ua....v..w..................x...........y..............................................",
+            cause,
+        );
+    }
+    b'.'
+}
+
+// The error number that stands beside a cause, 0 where none does.
+fn number(column: u32, cause: u32) -> u32
+    ensures { λ r. ⌜ r ≡ printed column cause .error ⌝ }
+{
+    let e = letter(column, cause);
+    if e == b'.' {
+        return 0;
+    }
+    NUMBERS[(e - b'a') as usize]
+}
+
+// The CME number of a cause in columns 0 to 2, the CMS number in columns 3 and 4, for the AT side: 0
+// with the number, or with 0 where none is printed; 2 for a column above 4 or a cause above 255.
+pub fn error(column: u32, cause: u32) -> Answer
+    ensures { λ r. ⌜ r ≡ errorFor column cause ⌝ }
+{
+    if (column <= 4) & (cause <= 255) {
+        return Answer {
+            number: 0,
+            second: number(column, cause),
+        };
+    }
+    Answer {
+        number: 2,
+        second: 0,
+    }
 }
 
 // The mood of service 2 after a rejection: 2 permanent, 3 temporary.

@@ -1,9 +1,12 @@
-// The C interface: the ten calls of the gate, exported. Each slice is a pointer and a count, and each call gives back two numbers.
-// include/dialchisel.h says what the caller owes. Each call promises what the gate's own does.
+// The C interface: the eleven calls of the gate, exported. Each slice is a pointer and a count, and
+// each call gives back two numbers. include/dialchisel.h says what the caller owes. Each call
+// promises what the gate's own does.
 use rules::Answer;
+ghost use mathlib.Core.Path.{_≡_};
 ghost use Rattle.rules.specs.Calls.{timed};
 ghost use Rattle.rules.specs.declared.Event.the-variants.{Ask as ask, Outcome as outcome, Dropped as dropped, Tick as tick};
 ghost use Rattle.rules.specs.declared.Outcome.the-variants.{Granted as granted, Silent as silent, Rejected as rejected};
+ghost use Rattle.causes.specs.Tables.{errorFor};
 ghost use Rattle.clock.specs.Call.{Says};
 ghost use Rattle.reasons.specs.Why.{RoomSays};
 ghost use Rattle.opening.specs.Open.{order, OpenSays};
@@ -72,7 +75,8 @@ pub extern "C" fn dialchisel_granted(state: &mut [u32], time: u32, service: u32)
     gate::granted(state, time, service)
 }
 
-// What was asked of a service was rejected with a cause; `second` says whether a second network exists. 20 to 23 say what to do.
+// What was asked of a service was rejected with a cause of a column; `second` says whether a second
+// network exists. 20 to 28 say what to do.
 #[no_mangle]
 pub extern "C" fn dialchisel_rejected(
     state: &mut [u32],
@@ -80,10 +84,20 @@ pub extern "C" fn dialchisel_rejected(
     service: u32,
     cause: u32,
     second: u32,
+    column: u32,
 ) -> Answer
-    ensures { λ r. ⌜ Says (now (state .entry)) (timed time (outcome service (rejected cause second))) r (now (state .exit)) ⌝ }
+    ensures { λ r. ⌜ Says (now (state .entry)) (timed time (outcome service (rejected cause second column))) r (now (state .exit)) ⌝ }
 {
-    gate::rejected(state, time, service, cause, second)
+    gate::rejected(state, time, service, cause, second, column)
+}
+
+// The CME or CMS number of a cause of a column, for the AT side: 0 with the number, or with 0 where
+// none is printed. No state is asked.
+#[no_mangle]
+pub extern "C" fn dialchisel_error(column: u32, cause: u32) -> Answer
+    ensures { λ r. ⌜ r ≡ errorFor column cause ⌝ }
+{
+    gate::error(column, cause)
 }
 
 // What was asked of a service had no answer.

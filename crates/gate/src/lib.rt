@@ -3,8 +3,8 @@
 //
 // What each call promises is a relation between what it was given, what it answers and what it leaves: `OpenSays`, `Says`,
 // `CommandSays` and `SaveSays`; of `why`, which changes nothing, what it says, `whyOf` and `RoomSays`;
-// of `parameters` and `rates`, which are asked of the files alone, which part it is, `IsPart`. Each
-// allows one result only.
+// of `parameters` and `rates`, which are asked of the files alone, which part it is, `IsPart`; of
+// `error`, which is asked of nothing but its numbers, `errorFor`. Each allows one result only.
 use reasons::said::Why;
 use rules::Answer;
 use rules::Event;
@@ -14,6 +14,7 @@ ghost use Rattle.rules.specs.Calls.{timed};
 ghost use Rattle.rules.specs.declared.Event.the-variants.{Ask as ask, Outcome as outcome, Dropped as dropped, Tick as tick};
 ghost use Rattle.rules.specs.declared.Outcome.the-variants.{Granted as granted, Silent as silent, Rejected as rejected};
 ghost use Rattle.card.specs.Card.{IsPart};
+ghost use Rattle.causes.specs.Tables.{errorFor};
 ghost use Rattle.clock.specs.Call.{Says};
 ghost use Rattle.reasons.specs.Why.{whyOf, RoomSays};
 ghost use Rattle.opening.specs.Open.{order, OpenSays};
@@ -100,15 +101,31 @@ pub fn granted(state: &mut [u32], time: u32, service: u32) -> Answer
     events::happen(state, time, Event::Outcome(service, Outcome::Granted))
 }
 
-// What was asked of a service was rejected with a cause; `second` says whether a second network exists. 20 to 23 say what to do.
-pub fn rejected(state: &mut [u32], time: u32, service: u32, cause: u32, second: u32) -> Answer
-    ensures { λ r. ⌜ Says (now (state .entry)) (timed time (outcome service (rejected cause second))) r (now (state .exit)) ⌝ }
+// What was asked of a service was rejected with a cause of a column; `second` says whether a second
+// network exists. 20 to 28 say what to do.
+pub fn rejected(
+    state: &mut [u32],
+    time: u32,
+    service: u32,
+    cause: u32,
+    second: u32,
+    column: u32,
+) -> Answer
+    ensures { λ r. ⌜ Says (now (state .entry)) (timed time (outcome service (rejected cause second column))) r (now (state .exit)) ⌝ }
 {
     events::happen(
         state,
         time,
-        Event::Outcome(service, Outcome::Rejected(cause, second)),
+        Event::Outcome(service, Outcome::Rejected(cause, second, column)),
     )
+}
+
+// The CME or CMS number of a cause of a column, for the AT side: 0 with the number, or with 0 where
+// none is printed. No state is asked.
+pub fn error(column: u32, cause: u32) -> Answer
+    ensures { λ r. ⌜ r ≡ errorFor column cause ⌝ }
+{
+    causes::error(column, cause)
 }
 
 // What was asked of a service had no answer.

@@ -91,7 +91,7 @@ cases =
     case plain
     (timed 0 (ask 2) ∷ timed 0 (outcome 2 silent) ∷ timed 1000 (ask 2) ∷ timed 1000 (outcome 2 silent) ∷ timed 2000 (ask 2) ∷ timed 2000 (outcome 2 silent) ∷ timed 3000 (ask 2) ∷ timed 3000 (outcome 2 silent) ∷ [])
     -- C2, C3
-    ∷ case plain (timed 1000 (ask 2) ∷ timed 1010 (outcome 2 (rejected 26 0)) ∷ timed 1112 (ask 2) ∷ timed 1113 (ask 2) ∷ [])
+    ∷ case plain (timed 1000 (ask 2) ∷ timed 1010 (outcome 2 (rejected 26 0 2)) ∷ timed 1112 (ask 2) ∷ timed 1113 (ask 2) ∷ [])
     -- C4, C5
     ∷ case (from 0 1 none 0 2 0 0) (timed 10 (ask 3) ∷ timed 10 (outcome 3 granted) ∷ timed 20 (ask 3) ∷ timed 20 (outcome 3 granted) ∷ timed 3609 (ask 3) ∷ timed 3610 (ask 3) ∷ [])
     -- C6, C7
@@ -99,22 +99,22 @@ cases =
     -- C8
     ∷ case (from 0 1 (0 ∷ 0 ∷ 0 ∷ 0 ∷ 0 ∷ 2 ∷ []) 0 0 0 0) (timed 0 (ask 2) ∷ timed 1 (outcome 2 granted) ∷ timed 2 (ask 4) ∷ timed 3 (ask 2) ∷ [])
     -- C9
-    ∷ case (from 0 0 (0 ∷ 0 ∷ 0 ∷ 1 ∷ 0 ∷ 0 ∷ []) 0 0 0 0) (timed 0 (ask 2) ∷ timed 1 (outcome 2 (rejected 33 0)) ∷ timed 2 (ask 2) ∷ [])
+    ∷ case (from 0 0 (0 ∷ 0 ∷ 0 ∷ 1 ∷ 0 ∷ 0 ∷ []) 0 0 0 0) (timed 0 (ask 2) ∷ timed 1 (outcome 2 (rejected 33 0 2)) ∷ timed 2 (ask 2) ∷ [])
     -- C10
     ∷ case leaking (timed 3599 tick ∷ [])
     ∷ case leaking (timed 3599 tick ∷ timed 3600 tick ∷ [])
     ∷ case leaking (timed 3599 tick ∷ timed 3600 tick ∷ timed 10800 tick ∷ [])
     -- the printed trace, opened at 1000 with S1 = 2
     ∷ case (from 1000 1 none 0 2 0 0)
-    (timed 1000 (ask 2) ∷ timed 1010 (outcome 2 (rejected 26 0)) ∷ timed 1112 (ask 2) ∷ timed 1113 (ask 2) ∷ timed 1114 (outcome 2 granted) ∷ timed 1115 (ask 2) ∷ [])
+    (timed 1000 (ask 2) ∷ timed 1010 (outcome 2 (rejected 26 0 2)) ∷ timed 1112 (ask 2) ∷ timed 1113 (ask 2) ∷ timed 1114 (outcome 2 granted) ∷ timed 1115 (ask 2) ∷ [])
     -- C9's neighbours: after silence F1, after a temporary cause F3; A1, which the other
     -- registration meets
     ∷ case (from 0 0 (0 ∷ 0 ∷ 1 ∷ 0 ∷ 0 ∷ 0 ∷ []) 0 0 0 0) (timed 0 (ask 2) ∷ timed 1 (outcome 2 silent) ∷ timed 2 (ask 2) ∷ [])
-    ∷ case (from 0 0 (0 ∷ 0 ∷ 0 ∷ 0 ∷ 1 ∷ 0 ∷ []) 0 0 0 0) (timed 0 (ask 2) ∷ timed 1 (outcome 2 (rejected 26 0)) ∷ timed 2 (ask 2) ∷ [])
+    ∷ case (from 0 0 (0 ∷ 0 ∷ 0 ∷ 0 ∷ 1 ∷ 0 ∷ []) 0 0 0 0) (timed 0 (ask 2) ∷ timed 1 (outcome 2 (rejected 26 0 2)) ∷ timed 2 (ask 2) ∷ [])
     ∷ case (from 0 1 none 1 0 0 0) (timed 0 (ask 0) ∷ timed 1 (outcome 0 granted) ∷ timed 2 (ask 1) ∷ [])
     -- C2's: re-attach; another network, and the same cause without one, the first failure
     ∷ case plain
-    (timed 1000 (ask 2) ∷ timed 1010 (outcome 2 (rejected 28 0)) ∷ timed 1011 (ask 2) ∷ timed 1012 (outcome 2 (rejected 34 1)) ∷ timed 1013 (ask 2) ∷ timed 1014 (outcome 2 (rejected 34 0)) ∷ [])
+    (timed 1000 (ask 2) ∷ timed 1010 (outcome 2 (rejected 28 0 2)) ∷ timed 1011 (ask 2) ∷ timed 1012 (outcome 2 (rejected 34 1 2)) ∷ timed 1013 (ask 2) ∷ timed 1014 (outcome 2 (rejected 34 0 2)) ∷ [])
     -- the checks, and the read
     ∷ case plain (timed 5 tick ∷ timed 6 (ask 6) ∷ timed 4 (ask 0) ∷ timed 5 (ask 4) ∷ typed query ∷ typed bad ∷ [])
     ∷ []

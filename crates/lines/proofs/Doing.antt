@@ -49,7 +49,7 @@ module _ {b : List ℕ} {w : Said} where
 
 -- ---- A timed line
 
-module _ (x : ℕ) (line v : List ℕ) (s : Span) (e : rowOf line s v ≡ fields space highest 4 (drop 1 line)) (most4 : s .count ≤ 4) (four : length v ≡ 4) where
+module _ (x : ℕ) (line v : List ℕ) (s : Span) (e : rowOf line s v ≡ fields space highest 5 (drop 1 line)) (most : s .count ≤ 5) (five : length v ≡ 5) where
   pub timed-none : s .count ≡ 0 → timedLine x (drop 1 line) ≡ wrong
   unfolding timedLine
   timed-none h = exactly-none wrong (howMany x) line v s e (omega arith) (λ n rest. cond (ended rest) (calls (timed (getD n 0 0) (eventOf x n))) wrong) h

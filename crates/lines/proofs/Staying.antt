@@ -87,7 +87,7 @@ open-typed l =
 timed-typed : (x : ℕ) (l : List ℕ) → SaidTyped (timedLine x l)
 unfolding timedLine
 timed-typed x l =
-    by-exactly SaidTyped tt highest (howMany x) (fields space highest 4 l) (fields-up-to space highest (omega arith) 4 l)
+    by-exactly SaidTyped tt highest (howMany x) (fields space highest 5 l) (fields-up-to space highest (omega arith) 5 l)
     (λ n rest u. cond-by SaidTyped (ended rest) {y = wrong} (λ _. tt) (λ _. tt))
 
 typed-typed : (l : List ℕ) → SaidTyped (typedLine l)

@@ -75,7 +75,7 @@ howMany x =
     cond (eqb x letterQ) 2
     (cond (eqb x letterG) 2
     (cond (eqb x letterS) 2
-    (cond (eqb x letterJ) 4
+    (cond (eqb x letterJ) 5
     (cond (eqb x letterD) 1
     (cond (eqb x letterT) 1 0)))))
 
@@ -85,12 +85,12 @@ eventOf x n =
     cond (eqb x letterQ) (ask (getD n 1 0))
     (cond (eqb x letterG) (outcome (getD n 1 0) granted)
     (cond (eqb x letterS) (outcome (getD n 1 0) silent)
-    (cond (eqb x letterJ) (outcome (getD n 1 0) (rejected (getD n 2 0) (getD n 3 0)))
+    (cond (eqb x letterJ) (outcome (getD n 1 0) (rejected (getD n 2 0) (getD n 3 0) (getD n 4 0)))
     (cond (eqb x letterD) dropped tick))))
 
--- Q, G, S, J, D, T: the time and up to three numbers more
+-- Q, G, S, J, D, T: the time and up to four numbers more
 unfoldable pub timedLine : ℕ → List ℕ → Said
-timedLine x l = ifExactly wrong (howMany x) (fields space highest 4 l) (λ n rest. cond (ended rest) (calls (timed (getD n 0 0) (eventOf x n))) wrong)
+timedLine x l = ifExactly wrong (howMany x) (fields space highest 5 l) (λ n rest. cond (ended rest) (calls (timed (getD n 0 0) (eventOf x n))) wrong)
 
 -- A: the rest of the line, which CR closes
 unfoldable pub typedLine : List ℕ → Said

@@ -143,7 +143,7 @@ fn how_many(x: u8) -> usize
         return 2;
     }
     if x == b'J' {
-        return 4;
+        return 5;
     }
     if x == b'D' {
         return 1;
@@ -169,7 +169,7 @@ fn event(x: u8, v: &[u32]) -> Event
         return Event::Outcome(v[1], Outcome::Silent);
     }
     if x == b'J' {
-        return Event::Outcome(v[1], Outcome::Rejected(v[2], v[3]));
+        return Event::Outcome(v[1], Outcome::Rejected(v[2], v[3], v[4]));
     }
     if x == b'D' {
         return Event::Dropped;
@@ -192,7 +192,7 @@ fn timed_line(s: &mut [u32], line: &[u8], x: u8, ok: bool) -> Reply
     requires { ⌜ ok ≡ good (now s) ⌝ }
     ensures { λ r. ⌜ Done (now (s .entry)) (timedLine x (drop 1 (now (line .entry)))) r (now (s .exit)) ⌝ }
 {
-    let mut v = [0u32; 4];
+    let mut v = [0u32; 5];
     let read = rows::fields(line, 1, b' ', 4294967295, &mut v);
     let count = read.count;
     if count == 0 {

@@ -1,18 +1,19 @@
 -- Outcomes on a good buffer: their answers, and what they leave. Assumes nothing.
 use mathlib.Core.Path.{_≡_, refl, sym, ap, _∙_}
-use mathlib.Core.Bool.{Bool, true, false, cond}
-use mathlib.Core.List.{List, []}
-use Prim.Native.Nat.{ℕ, _+_, _≤_, _<_}
+use mathlib.Core.Bool.{Bool, true, false, cond, _&&_}
+use mathlib.Core.List.{List, [], _∷_}
+use Prim.Native.Nat.{ℕ, zero, suc, _+_, _≤_, _<_}
 use native.Mathlib.Omega.{arith}
 use lib.Dec.{lit<, leb, eqb}
-use lib.ListN.{getD, set}
+use lib.ListN.{length, getD, set}
 use borrow.Author.Tests.{leb-true}
 use Rattle.rules.specs.declared.Answer.{Answer}
 use Rattle.rules.specs.Calls.{timed, answer}
 use Rattle.rules.specs.declared.Event.{Event}
 use Rattle.rules.specs.declared.Event.the-variants.{Outcome as outcome, Dropped as dropped}
 use Rattle.rules.specs.declared.Outcome.the-variants.{Granted as granted, Silent as silent, Rejected as rejected}
-use Rattle.rules.specs.Tables.{highestTime, Kind, refusals, action, moodOn}
+use Rattle.rules.specs.Causes.{action, both, reaches}
+use Rattle.rules.specs.Tables.{highestTime, Kind, refusals, moodOn, oneMore, four}
 use Rattle.rules.specs.Rules.{check, inRange, timely, stands, refusal, wait, failed, verdict, refused, moved, onGranted, onFailed, onOutcome, acted, changed, enters, adds}
 use Rattle.rules.specs.State.{Facts, Services, withServices}
 use Rattle.rules.proofs.Among.{not-among}
@@ -21,14 +22,14 @@ use Rattle.buffer.specs.Places.{STANDING, MOOD}
 use Rattle.buffer.specs.Layout.{spread, rows, factsOf, view}
 use Rattle.buffer.specs.Good.{good}
 use Rattle.buffer.proofs.Segments.{part-at}
-use Rattle.buffer.proofs.Laid.{Laid, laid-as, laid-standing, laid-mood}
+use Rattle.buffer.proofs.Laid.{Laid, laid-good, laid-as, laid-standing, laid-mood}
 use Rattle.clock.specs.Call.{Says}
 use Rattle.clock.proofs.Saying.{says-good, rules-on, moves}
 use Rattle.clock.proofs.Leaking.{laid-moved}
 use Rattle.causes.proofs.Causes.{action-low}
 use Rattle.backoff.specs.Backoffs.{clear, stored, backed}
 use Rattle.backoff.proofs.Backoffs.{laid-stored, laid-backed}
-use Rattle.outcome.specs.Outcome.{rested, served}
+use Rattle.outcome.specs.Outcome.{rested, checked, served}
 
 -- ---- A service at rest, on a buffer that is laid out
 
@@ -45,6 +46,49 @@ module _ {b : List ℕ} {f : Facts} {rs : List (List ℕ)} (l : Laid b f rs) (i 
       go true = laid-mood (laid-standing l i x h) m
       go false = laid-standing l i x h
 
+-- ---- Four numbers
+
+-- what holds of four by service holds of any four
+of-any-four : (P : List ℕ → Type 0) → ((e : ℕ → ℕ) → P (four e)) → (l : List ℕ) → length l ≡ 4 → P l
+of-any-four P h (a ∷ b ∷ c ∷ d ∷ []) z = h (λ u. getD (a ∷ b ∷ c ∷ d ∷ []) u 0)
+of-any-four P h [] z = absurd (omega arith)
+of-any-four P h (a ∷ []) z = absurd (omega arith)
+of-any-four P h (a ∷ b ∷ []) z = absurd (omega arith)
+of-any-four P h (a ∷ b ∷ c ∷ []) z = absurd (omega arith)
+of-any-four P h (a ∷ b ∷ c ∷ d ∷ x ∷ l) z = absurd (omega arith)
+
+-- `new u n` in the place of service u's number n, where y: of service i, and of services 0 and 1
+module _ (new : ℕ → ℕ → ℕ) (y : Bool) where
+  one-of-four : (i : ℕ) → i < 4 → (l : List ℕ) → length l ≡ 4
+      → cond y (set l i (new i (getD l i 0))) l ≡ four (λ u. cond (y && reaches false i u) (new u (getD l u 0)) (getD l u 0))
+  one-of-four i low =
+      of-any-four (λ l. cond y (set l i (new i (getD l i 0))) l ≡ four (λ u. cond (y && eqb i u) (new u (getD l u 0)) (getD l u 0)))
+      (λ e. go y i low e)
+    where
+      go : (y : Bool) (i : ℕ) → i < 4 → (e : ℕ → ℕ)
+          → cond y (set (four e) i (new i (getD (four e) i 0))) (four e) ≡ four (λ u. cond (y && eqb i u) (new u (e u)) (e u))
+      go false i low e = refl
+      go true zero low e = refl
+      go true (suc zero) low e = refl
+      go true (suc (suc zero)) low e = refl
+      go true (suc (suc (suc zero))) low e = refl
+      go true (suc (suc (suc (suc i)))) low e = absurd (omega arith)
+
+  abbrev first-new : List ℕ → List ℕ
+  first-new l = cond y (set l 0 (new 0 (getD l 0 0))) l
+
+  two-of-four : (l : List ℕ) → length l ≡ 4
+      → cond y (set (first-new l) 1 (new 1 (getD (first-new l) 1 0))) (first-new l) ≡ four (λ u. cond (y && reaches true 0 u) (new u (getD l u 0)) (getD l u 0))
+  two-of-four =
+      of-any-four (λ l. cond y (set (first-new l) 1 (new 1 (getD (first-new l) 1 0))) (first-new l) ≡ four (λ u. cond (y && leb u 1) (new u (getD l u 0)) (getD l u 0)))
+      (λ e. go y e)
+    where
+      go : (y : Bool) (e : ℕ → ℕ)
+          → cond y (set (cond y (set (four e) 0 (new 0 (e 0))) (four e)) 1 (new 1 (getD (cond y (set (four e) 0 (new 0 (e 0))) (four e)) 1 0))) (cond y (set (four e) 0 (new 0 (e 0))) (four e))
+          ≡ four (λ u. cond (y && leb u 1) (new u (e u)) (e u))
+      go true e = refl
+      go false e = refl
+
 -- ---- What is left
 
 module _ (b : List ℕ) (g : good b ≡ true) (t i : ℕ) (h : i < 4) where
@@ -57,11 +101,40 @@ module _ (b : List ℕ) (g : good b ≡ true) (t i : ℕ) (h : i < 4) where
   unfolding moved onGranted
   grants p q r = laid-as (laid-rested (laid-as (laid-stored (laid-moved b g t p) i h clear) q) i h (cond (eqb i 2) 2 0) 0) r .is
 
-  module _ (n : ℕ) (a : Answer) (e : a ≡ failed (factsOf b) i n) where
-    pub fails : (m : ℕ) {x y z : List ℕ} → Clocked x → y ≡ rested x i 0 m → z ≡ backed y t i (a .number) (a .second)
-        → z ≡ served b t (onFailed t i a m (factsOf b .services))
-    unfolding moved onFailed
-    fails m p q r = laid-as (laid-backed (laid-as (laid-rested (laid-moved b g t p) i h 0 m) q) i h t (a .number) (a .second)) r .is
+  -- after a failure of service i whose answer has number k: it backs off for w seconds
+  pub fails : (k m w : ℕ) {x y z : List ℕ} → (eqb k 20 ≡ true → w ≡ wait (factsOf b) i) → Clocked x → y ≡ rested x i 0 m → z ≡ backed y t i k w
+      → z ≡ served b t (onFailed t i (eqb k 20) false m (factsOf b))
+  unfolding moved onFailed
+  fails k m w long p q r =
+      let l = laid-good b g .shaped in
+      laid-as (laid-backed (laid-as (laid-rested (laid-moved b g t p) i h 0 m) q) i h t k w) r .is
+      ∙ (λ j. served b t (record {
+        failures = one-of-four (λ u n. oneMore n) (eqb k 20) i h (factsOf b .services .failures) (l .failures) j;
+        ends = (until (eqb k 20) refl ∙ one-of-four (λ u n. t + wait (factsOf b) u) (eqb k 20) i h (factsOf b .services .ends) (l .ends)) j;
+        standing = set (factsOf b .services .standing) i 0;
+        mood = cond (eqb i 2) m (factsOf b .services .mood);
+      }))
+    where
+      until : (y : Bool) → eqb k 20 ≡ y → cond y (set (factsOf b .services .ends) i (t + w)) (factsOf b .services .ends)
+          ≡ cond y (set (factsOf b .services .ends) i (t + wait (factsOf b) i)) (factsOf b .services .ends)
+      until true e = ap (λ (w : ℕ). set (factsOf b .services .ends) i (t + w)) (long e)
+      until false e = refl
+
+  -- both registrations do, for w and v seconds
+  pub fails-both : (k m w v : ℕ) {x y z z′ : List ℕ} → w ≡ wait (factsOf b) 0 → v ≡ wait (factsOf b) 1 → Clocked x → y ≡ rested x i 0 m → z ≡ backed y t 0 k w → z′ ≡ backed z t 1 k v
+      → z′ ≡ served b t (onFailed t i (eqb k 20) true m (factsOf b))
+  unfolding moved onFailed
+  fails-both k m w v first other p q r r′ =
+      let l = laid-good b g .shaped in
+      laid-as (laid-backed (laid-as (laid-backed (laid-as (laid-rested (laid-moved b g t p) i h 0 m) q) 0 (lit< tt) t k w) r) 1 (lit< tt) t k v) r′ .is
+      ∙ (λ j. served b t (record {
+        failures = two-of-four (λ u n. oneMore n) (eqb k 20) (factsOf b .services .failures) (l .failures) j;
+        ends =
+            ((λ j. let l = cond (eqb k 20) (set (factsOf b .services .ends) 0 (t + first j)) (factsOf b .services .ends) in cond (eqb k 20) (set l 1 (t + other j)) l)
+            ∙ two-of-four (λ u n. t + wait (factsOf b) u) (eqb k 20) (factsOf b .services .ends) (l .ends)) j;
+        standing = set (factsOf b .services .standing) i 0;
+        mood = cond (eqb i 2) m (factsOf b .services .mood);
+      }))
 
 -- a failure is answered, not refused
 failed-low : (f : Facts) (i n : ℕ) → 20 ≤ n → refused (failed f i n) ≡ false
@@ -82,6 +155,12 @@ pub dropped-refusal : (b : List ℕ) (t n : ℕ) {u : Bool} {v : ℕ} → n ≡ 
     → u ≡ timely (factsOf b) t → v ≡ getD b (STANDING + 2) 0 → n ≡ refusal (factsOf b) (timed t dropped)
 unfolding refusal inRange stands factsOf
 dropped-refusal b t n d p q = d ∙ (λ j. check true 2 (check (p j) 3 (check (eqb ((q ∙ sym (part-at b STANDING 4 2 (lit< tt))) j) 2) 4 0)))
+
+-- the checks of a rejection, where `range` is whether its numbers are in range
+pub rejected-refusal : (b : List ℕ) (t n i cause second column : ℕ) {range : Bool} → n ≡ checked (factsOf b) t range i
+    → range ≡ inRange (outcome i (rejected cause second column)) → n ≡ refusal (factsOf b) (timed t (outcome i (rejected cause second column)))
+unfolding refusal stands
+rejected-refusal b t n i cause second column d r = d ∙ ap (λ (x : Bool). checked (factsOf b) t x i) r
 
 -- a call that no check refuses
 module _ (b : List ℕ) (t : ℕ) (e : Event) (n : ℕ) (d : n ≡ refusal (factsOf b) (timed t e)) (z : n ≡ 0) where
@@ -113,17 +192,18 @@ module _ (b : List ℕ) (g : good b ≡ true) (t n : ℕ) (z : n ≡ 0) where
       (laid-as (laid-standing (laid-moved b g t p) 2 0 (lit< tt)) q .is)
 
   pub says-silent : (i : ℕ) → n ≡ refusal (factsOf b) (timed t (outcome i silent)) → {a : Answer} {x : List ℕ} → a ≡ failed (factsOf b) i 20
-      → x ≡ served b t (onFailed t i a 1 (factsOf b .services)) → Says b (timed t (outcome i silent)) a x
-  unfolding verdict moved acted onOutcome adds enters
+      → x ≡ served b t (onFailed t i (eqb (a .number) 20) false 1 (factsOf b)) → Says b (timed t (outcome i silent)) a x
+  unfolding verdict moved acted onOutcome onFailed wait adds enters
   says-silent i d {a} e p =
       says-event b t (outcome i silent) n d z g a (sym e) (rw e (failed-low (factsOf b) i 20 (omega arith))) (λ k. refl) p
 
-  pub says-rejected : (i cause second : ℕ) → n ≡ refusal (factsOf b) (timed t (outcome i (rejected cause second))) → {k m : ℕ} {a : Answer} {x : List ℕ}
-      → k ≡ action i cause second → m ≡ moodOn cause → a ≡ failed (factsOf b) i k → x ≡ served b t (onFailed t i a m (factsOf b .services))
-      → Says b (timed t (outcome i (rejected cause second))) a x
-  unfolding verdict moved acted onOutcome adds enters
-  says-rejected i cause second d {a = a} u v e p =
-      let is : a ≡ failed (factsOf b) i (action i cause second) = e ∙ ap (failed (factsOf b) i) u in
-      let low = failed-low (factsOf b) i (action i cause second) (action-low i cause second) in
-      says-event b t (outcome i (rejected cause second)) n d z g a (sym is) (rw is low) (λ k. refl)
-      (p ∙ ap (λ (m : ℕ). served b t (onFailed t i a m (factsOf b .services))) v)
+  pub says-rejected : (i cause second column : ℕ) → n ≡ refusal (factsOf b) (timed t (outcome i (rejected cause second column)))
+      → {k m : ℕ} {two : Bool} {a : Answer} {x : List ℕ} → k ≡ action column cause second → two ≡ both column cause → m ≡ moodOn cause
+      → a ≡ failed (factsOf b) i k → x ≡ served b t (onFailed t i (eqb (a .number) 20) two m (factsOf b))
+      → Says b (timed t (outcome i (rejected cause second column))) a x
+  unfolding verdict moved acted onOutcome onFailed wait adds enters
+  says-rejected i cause second column d {a = a} acts whose mood e p =
+      let is : a ≡ failed (factsOf b) i (action column cause second) = e ∙ ap (failed (factsOf b) i) acts in
+      let low = failed-low (factsOf b) i (action column cause second) (action-low column cause second) in
+      says-event b t (outcome i (rejected cause second column)) n d z g a (sym is) (rw is low) (λ k. refl)
+      (p ∙ (λ j. served b t (onFailed t i (eqb (a .number) 20) (whose j) (mood j) (factsOf b))))

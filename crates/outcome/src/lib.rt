@@ -4,7 +4,7 @@ use buffer::fields;
 use rules::Answer;
 use rules::Outcome;
 ghost use mathlib.Core.Path.{_≡_};
-ghost use mathlib.Core.Bool.{true, cond};
+ghost use mathlib.Core.Bool.{true, false, cond};
 ghost use Prim.Native.Nat.{_<_, _≤_};
 ghost use lib.ListN.{length};
 ghost use lib.Dec.{eqb};
@@ -12,7 +12,7 @@ ghost use Rattle.rules.specs.Calls.{timed};
 ghost use Rattle.rules.specs.declared.Event.the-variants.{Outcome as outcome, Dropped as dropped};
 ghost use Rattle.rules.specs.declared.Outcome.the-variants.{Granted as granted, Silent as silent, Rejected as rejected};
 ghost use Rattle.rules.specs.Tables.{highestTime};
-ghost use Rattle.rules.specs.Rules.{standing, failed, onGranted, onFailed};
+ghost use Rattle.rules.specs.Rules.{inRange, standing, failed, onGranted, onFailed};
 ghost use Rattle.buffer.specs.Places.{SIZE};
 ghost use Rattle.buffer.specs.Layout.{factsOf};
 ghost use Rattle.buffer.specs.Good.{good};
@@ -37,6 +37,14 @@ fn checks(s: &[u32], t: u32, range: bool, service: u32) -> u32
     ensures { λ r. ⌜ r ≡ checked (factsOf (now (s .entry))) t range service ⌝ }
 {
     clock::refuse(range, clock::timely(s, t), asked(s, service))
+}
+
+// Whether the numbers of a rejection are in range, and the column is one of the service's.
+fn told(service: u32, cause: u32, second: u32, column: u32) -> bool
+    ensures { λ r. ⌜ r ≡ inRange (outcome service (rejected cause second column)) ⌝ }
+{
+    let own = (column == service) | ((column == 4) & (service == 3));
+    (service <= 3) & ((cause <= 255) & ((second <= 1) & own))
 }
 
 // Service i stands at x, and service 2 gets mood m.
@@ -74,19 +82,38 @@ fn grant(s: &mut [u32], t: u32, i: usize)
     rest(s, i, up(i), 0);
 }
 
-// Service i fails at t: n is the action, m service 2's mood.
+// Service i fails at t: n is the action, of itself alone, m service 2's mood.
 fn fail(s: &mut [u32], t: u32, i: usize, n: u32, m: u32) -> Answer
     requires { ⌜ length (now s) ≡ SIZE ⌝ }
     requires { ⌜ good (now s) ≡ true ⌝ }
     requires { ⌜ i < 4 ⌝ }
     requires { ⌜ t ≤ highestTime ⌝ }
     ensures { λ r. ⌜ r ≡ failed (factsOf (now (s .entry))) i n ⌝ }
-    ensures { λ r. ⌜ now (s .exit) ≡ served (now (s .entry)) t (onFailed t i r m (factsOf (now (s .entry)) .services)) ⌝ }
+    ensures { λ r. ⌜ now (s .exit) ≡ served (now (s .entry)) t (onFailed t i (eqb (r .number) 20) false m (factsOf (now (s .entry)))) ⌝ }
 {
     let a = backoff::failing(s, i, n);
     clock::advance(s, t);
     rest(s, i, 0, m);
     backoff::back(s, t, i, a.number, a.second);
+    a
+}
+
+// Service i fails at t, and both registrations back off, each by its own wait.
+fn fail_both(s: &mut [u32], t: u32, i: usize, m: u32) -> Answer
+    requires { ⌜ length (now s) ≡ SIZE ⌝ }
+    requires { ⌜ good (now s) ≡ true ⌝ }
+    requires { ⌜ i < 4 ⌝ }
+    requires { ⌜ t ≤ highestTime ⌝ }
+    ensures { λ r. ⌜ r ≡ failed (factsOf (now (s .entry))) i 20 ⌝ }
+    ensures { λ r. ⌜ now (s .exit) ≡ served (now (s .entry)) t (onFailed t i (eqb (r .number) 20) true m (factsOf (now (s .entry)))) ⌝ }
+{
+    let a = backoff::failing(s, i, 20);
+    let first = backoff::wait(s, 0);
+    let other = backoff::wait(s, 1);
+    clock::advance(s, t);
+    rest(s, i, 0, m);
+    backoff::back(s, t, 0, a.number, first);
+    backoff::back(s, t, 1, a.number, other);
     a
 }
 
@@ -127,28 +154,26 @@ fn silent_in(s: &mut [u32], t: u32, service: u32) -> Answer
 }
 
 // A rejection, on a good buffer.
-fn rejected_in(s: &mut [u32], t: u32, service: u32, cause: u32, second: u32) -> Answer
+fn rejected_in(s: &mut [u32], t: u32, service: u32, cause: u32, second: u32, column: u32) -> Answer
     requires { ⌜ length (now s) ≡ SIZE ⌝ }
     requires { ⌜ good (now s) ≡ true ⌝ }
-    ensures { λ r. ⌜ Says (now (s .entry)) (timed t (outcome service (rejected cause second))) r (now (s .exit)) ⌝ }
+    ensures { λ r. ⌜ Says (now (s .entry)) (timed t (outcome service (rejected cause second column))) r (now (s .exit)) ⌝ }
 {
-    let n = checks(
-        s,
-        t,
-        (service <= 3) & ((cause <= 255) & (second <= 1)),
-        service,
-    );
+    let n = checks(s, t, told(service, cause, second, column), service);
     if n != 0 {
         return Answer {
             number: n,
             second: 0,
         };
     }
+    if causes::both(column, cause) {
+        return fail_both(s, t, service as usize, causes::mood(cause));
+    }
     fail(
         s,
         t,
         service as usize,
-        causes::action(service, cause, second),
+        causes::action(column, cause, second),
         causes::mood(cause),
     )
 }
@@ -183,6 +208,8 @@ pub fn outcome_in(s: &mut [u32], t: u32, service: u32, o: Outcome) -> Answer
     match o {
         Outcome::Granted => granted_in(s, t, service),
         Outcome::Silent => silent_in(s, t, service),
-        Outcome::Rejected(cause, second) => rejected_in(s, t, service, cause, second),
+        Outcome::Rejected(cause, second, column) => {
+            rejected_in(s, t, service, cause, second, column)
+        }
     }
 }

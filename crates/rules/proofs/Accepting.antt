@@ -1,8 +1,8 @@
 -- A call is accepted just when no check of the rules refuses it, and any other is refused by the
 -- first check that it does not pass. Assumes nothing.
-use Prim.Native.Nat.{ℕ, _≤_}
+use Prim.Native.Nat.{ℕ, zero, suc, _≤_}
 use mathlib.Core.Path.{_≡_, refl, sym, _∙_}
-use mathlib.Core.Bool.{Bool, true, false, cond, _&&_, false≢true}
+use mathlib.Core.Bool.{Bool, true, false, cond, _&&_, _||_, false≢true}
 use mathlib.Core.List.{List}
 use mathlib.Core.Logic.{_⊎_, inl, inr}
 use lib.ListN.{getD}
@@ -10,12 +10,13 @@ use lib.Dec.{leb, eqb}
 use borrow.Author.Tests.{leb-true, eqb-true, le-leb, eq-eqb}
 use native.Mathlib.Omega.{arith}
 use Rattle.rules.specs.Calls.{Outcome, Event, ask, outcome, granted, silent, rejected, dropped, tick, Line, nfm, nfm-start, intervals, query, bad, timed, typed, Entry, answer}
+use Rattle.rules.specs.Causes.{belongs}
 use Rattle.rules.specs.Tables.{highestTime, scheduled}
 use Rattle.rules.specs.State.{State}
 use Rattle.rules.specs.Record.{lastTime, standing}
 use Rattle.rules.specs.Rules.{inRange, timely, stands, refusal, verdict, ruling}
 use Rattle.rules.specs.Told.{tells, ruled}
-use Rattle.rules.specs.Direct.{InRange, InTime, Fits, Accepted, AsAbove, written}
+use Rattle.rules.specs.Direct.{Has, MM, GMM, SM, RP, CP, InRange, InTime, Fits, Accepted, AsAbove, written}
 use Rattle.rules.proofs.Checks.{and-left, and-right, passed-verdict}
 use Rattle.rules.proofs.Groups.{of-four}
 
@@ -30,12 +31,40 @@ decided false there back = inr (λ h. false≢true (back h))
 
 -- ---- Check 2
 
+has-low : {s column : ℕ} → Has s column → s ≤ 3
+has-low MM = omega arith
+has-low GMM = omega arith
+has-low SM = omega arith
+has-low RP = omega arith
+has-low CP = omega arith
+
+has-belongs : {s column : ℕ} → Has s column → belongs column s ≡ true
+has-belongs MM = refl
+has-belongs GMM = refl
+has-belongs SM = refl
+has-belongs RP = refl
+has-belongs CP = refl
+
+own : (s : ℕ) → s ≤ 3 → Has s s
+own zero h = MM
+own (suc zero) h = GMM
+own (suc (suc zero)) h = SM
+own (suc (suc (suc zero))) h = RP
+own (suc (suc (suc (suc s)))) h = absurd (omega arith)
+
+belongs-has : (s column : ℕ) → s ≤ 3 → belongs column s ≡ true → Has s column
+belongs-has s column low h = go (eqb column s) refl h
+  where
+    go : (b : Bool) → eqb column s ≡ b → (b || (eqb column 4 && eqb s 3)) ≡ true → Has s column
+    go true e h = rw (eqb-true column s e) (own s low)
+    go false e h = rw (eqb-true column 4 (and-left (eqb column 4) _ h), eqb-true s 3 (and-right (eqb column 4) _ h)) CP
+
 pub ranges : (e : Event) → InRange e → inRange e ≡ true
 unfolding inRange
 ranges (ask q) h = le-leb q 5 h
 ranges (outcome s granted) h = le-leb s 3 h
 ranges (outcome s silent) h = le-leb s 3 h
-ranges (outcome s (rejected cause second)) h = rw (le-leb s 3 (h .0), le-leb cause 255 (h .1 .0), le-leb second 1 (h .1 .1))
+ranges (outcome s (rejected cause second column)) h = rw (le-leb s 3 (has-low (h .0)), le-leb cause 255 (h .1 .0), le-leb second 1 (h .1 .1), has-belongs (h .0))
 ranges dropped h = refl
 ranges tick h = refl
 
@@ -44,16 +73,18 @@ unfolding inRange
 ranged (ask q) h = leb-true q 5 h
 ranged (outcome s granted) h = leb-true s 3 h
 ranged (outcome s silent) h = leb-true s 3 h
-ranged (outcome s (rejected cause second)) h =
+ranged (outcome s (rejected cause second column)) h =
+    let low = leb-true s 3 (and-left (leb s 3) _ h) in
     let rest = and-right (leb s 3) _ h in
-    (leb-true s 3 (and-left (leb s 3) _ h), (leb-true cause 255 (and-left (leb cause 255) _ rest), leb-true second 1 (and-right (leb cause 255) _ rest)))
+    let last = and-right (leb cause 255) _ rest in
+    (belongs-has s column low (and-right (leb second 1) _ last), (leb-true cause 255 (and-left (leb cause 255) _ rest), leb-true second 1 (and-left (leb second 1) _ last)))
 ranged dropped h = tt
 ranged tick h = tt
 
 pub service-low : (s : ℕ) (o : Outcome) → InRange (outcome s o) → s ≤ 3
 service-low s granted h = h
 service-low s silent h = h
-service-low s (rejected cause second) h = h .0
+service-low s (rejected cause second column) h = has-low (h .0)
 
 module _ (g : State) (past : List Entry) where
   -- ---- Check 3

@@ -9,7 +9,8 @@ use borrow.Author.Tests.{leb-true, le-leb, eqb-false, eqb-true, eq-eqb, ne-eqb}
 use native.Mathlib.Omega.{arith}
 use Rattle.rules.specs.declared.Answer.{Answer}
 use Rattle.rules.specs.Calls.{Outcome, Event, ask, outcome, dropped, tick, granted, silent, rejected, nfm, nfm-start, intervals, query, bad, Call, timed, typed, answer}
-use Rattle.rules.specs.Tables.{highestTime, Kind, among, refusals, action, scheduled}
+use Rattle.rules.specs.Causes.{action}
+use Rattle.rules.specs.Tables.{highestTime, Kind, among, refusals, scheduled}
 use Rattle.rules.specs.Rules.{check, inRange, timely, stands, refusal, wait, failed, verdict, ruling, refused, changed, enters, adds, learn}
 use Rattle.rules.specs.State.{State, Facts}
 use Rattle.rules.specs.Record.{toBackOff}
@@ -135,38 +136,31 @@ refused-nothing w c a e = go (refused a) e
 
 -- ---- 20 is given just where an outcome backs off, and carries the wait
 
--- the answer a to an outcome of service s; b is whether it asks to back off
-pub record Fails (f : Facts) (s : ℕ) (b : Bool) (a : Answer) : Type 0 where
-  pub backed : eqb (a .number) 20 ≡ (b && eqb (f .mode .nfm) 1)
-  pub waited : (b && eqb (f .mode .nfm) 1) ≡ true → a .second ≡ wait f s
-
-failed-fails : (f : Facts) (s n : ℕ) → Fails f s (eqb n 20) (failed f s n)
+-- the answer to an outcome of service s whose action is n
+pub failed-backs : (f : Facts) (s n : ℕ) → eqb (failed f s n .number) 20 ≡ (eqb n 20 && eqb (f .mode .nfm) 1)
 unfolding failed
-failed-fails f s n = go (eqb n 20) (eqb (f .mode .nfm) 1) refl refl
+failed-backs f s n = go (eqb n 20) (eqb (f .mode .nfm) 1) refl refl
   where
-    go : (x y : Bool) → eqb n 20 ≡ x → eqb (f .mode .nfm) 1 ≡ y → Fails f s (eqb n 20) (failed f s n)
-    go true true p q = record { backed = rw (p, q); waited = λ e. rw (p, q) }
-    go true false p q = record { backed = rw (p, q); waited = λ e. absurd (false≢true (rw (p, q) at e)) }
-    go false y p q = record { backed = rw p p; waited = λ e. absurd (false≢true (rw p at e)) }
+    go : (x y : Bool) → eqb n 20 ≡ x → eqb (f .mode .nfm) 1 ≡ y → eqb (failed f s n .number) 20 ≡ (eqb n 20 && eqb (f .mode .nfm) 1)
+    go true true p q = rw (p, q)
+    go true false p q = rw (p, q)
+    go false y p q = rw p p
 
-backs-off : (f : Facts) (s n : ℕ) → failed f s n .number ≡ 20 → (eqb n 20 && eqb (f .mode .nfm) 1) ≡ true
-backs-off f s n e = sym (failed-fails f s n .backed) ∙ eq-eqb (failed f s n .number) 20 e
-
-pub failed-on : (f : Facts) (s n : ℕ) → failed f s n .number ≡ 20 → eqb (f .mode .nfm) 1 ≡ true
-failed-on f s n e = and-right (eqb n 20) _ (backs-off f s n e)
-
-pub failed-wait : (f : Facts) (s n : ℕ) → failed f s n .number ≡ 20 → failed f s n .second ≡ wait f s
-failed-wait f s n e = failed-fails f s n .waited (backs-off f s n e)
+pub failed-wait : (f : Facts) (s n : ℕ) → eqb (failed f s n .number) 20 ≡ true → failed f s n .second ≡ wait f s
+unfolding failed
+failed-wait f s n e =
+    let b = sym (failed-backs f s n) ∙ e in
+    rw (and-left (eqb n 20) _ b, and-right (eqb n 20) _ b)
 
 -- a call that passes the checks is answered by the verdict on it
 pub passed-verdict : (w : State) (c : Call) → refusal (w .facts) c ≡ 0 → ruling w c ≡ verdict w c
 unfolding ruling
 passed-verdict w c z = rw z
 
-pub outcome-fails : (w : State) (t s : ℕ) (o : Outcome) → refusal (w .facts) (timed t (outcome s o)) ≡ 0
-    → Fails (w .facts) s (toBackOff s o) (ruling w (timed t (outcome s o)))
+pub outcome-backs : (w : State) (t s : ℕ) (o : Outcome) → refusal (w .facts) (timed t (outcome s o)) ≡ 0
+    → eqb (ruling w (timed t (outcome s o)) .number) 20 ≡ (toBackOff o && eqb (w .facts .mode .nfm) 1)
 unfolding verdict
-outcome-fails w t s granted z = rw (passed-verdict w (timed t (outcome s granted)) z) (record { backed = refl; waited = λ e. absurd (false≢true e) })
-outcome-fails w t s silent z = rw (passed-verdict w (timed t (outcome s silent)) z) (failed-fails (w .facts) s 20)
-outcome-fails w t s (rejected cause second) z =
-    rw (passed-verdict w (timed t (outcome s (rejected cause second))) z) (failed-fails (w .facts) s (action s cause second))
+outcome-backs w t s granted z = rw (passed-verdict w (timed t (outcome s granted)) z)
+outcome-backs w t s silent z = rw (passed-verdict w (timed t (outcome s silent)) z) (failed-backs (w .facts) s 20)
+outcome-backs w t s (rejected cause second column) z =
+    rw (passed-verdict w (timed t (outcome s (rejected cause second column))) z) (failed-backs (w .facts) s (action column cause second))

@@ -10,7 +10,8 @@ use borrow.Author.Tests.{ltb-true, ltb-false, eq-eqb}
 use native.Mathlib.Omega.{arith}
 use Rattle.rules.specs.declared.Answer.{Answer}
 use Rattle.rules.specs.Calls.{Outcome, ask, outcome, Call, timed, Entry, entry, answer}
-use Rattle.rules.specs.Tables.{inHour, fromNewest, freeIn, Kind, goes, among, limiting, action}
+use Rattle.rules.specs.Causes.{action}
+use Rattle.rules.specs.Tables.{inHour, fromNewest, freeIn, Kind, goes, among, limiting}
 use Rattle.rules.specs.State.{State}
 use Rattle.rules.specs.Record.{permits}
 use Rattle.rules.specs.Direct.{Accepted, Limited, N1, F1, F2, F3, F4, A1, S1, Over, WithinLimits, Free, nextWait, BacksOff, backs-off, Given, permitted, on-grant, on-drop, on-tick, on-line, out-of-range, out-of-time, wrong-standing, not-as-above, held, blocked, backed-off, in-its-place, other-action, Breaks, back-off, limit, Direct}
@@ -142,7 +143,7 @@ module _ (g : State) (past : List Entry) where
   twenty (blocked x free l v lower u) e = absurd (omega (arith, limit-number l .1))
   twenty (backed-off x f n) e = backs-off x f n
   twenty (in-its-place x f n) e = absurd (omega arith)
-  twenty (other-action {s = s} {cause = cause} {second = second} x f) e = absurd (false≢true (sym f ∙ eq-eqb (action s cause second) 20 e))
+  twenty (other-action {cause = cause} {second = second} {column = column} x f) e = absurd (false≢true (sym f ∙ eq-eqb (action column cause second) 20 e))
 
   -- ---- The sentences
 

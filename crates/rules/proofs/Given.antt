@@ -12,7 +12,8 @@ use borrow.Author.Tests.{leb-true, leb-false, ltb-true, ltb-false, eqb-true, eqb
 use native.Mathlib.Omega.{arith}
 use Rattle.rules.specs.declared.Answer.{Answer}
 use Rattle.rules.specs.Calls.{Outcome, Event, ask, outcome, granted, silent, rejected, dropped, tick, Call, timed, typed, Entry, answer}
-use Rattle.rules.specs.Tables.{within, inHour, fromNewest, freeIn, Kind, rank, action}
+use Rattle.rules.specs.Causes.{action}
+use Rattle.rules.specs.Tables.{within, inHour, fromNewest, freeIn, Kind, rank}
 use Rattle.rules.specs.State.{State, Facts}
 use Rattle.rules.specs.Record.{lastTime, nfmNow, permits, toBackOff, failures, backOffEnd}
 use Rattle.rules.specs.Rules.{Limit, blocks, blockedBy, firstBlock, inRange, timely, stands, runs, wait, failed, verdict}
@@ -164,34 +165,34 @@ module _ (g : State) (past : List Entry) where
   unfolding wait tells
   next-wait s h = rw (of-four (λ u. failures g u past) s h)
 
-  failure-verdict : (t s : ℕ) (o : Outcome) → toBackOff s o ≡ true → verdict (tells g past) (timed t (outcome s o)) ≡ failed (tells g past .facts) s 20
+  failure-verdict : (t s : ℕ) (o : Outcome) → toBackOff o ≡ true → verdict (tells g past) (timed t (outcome s o)) ≡ failed (tells g past .facts) s 20
   unfolding verdict
   failure-verdict t s granted e = absurd (false≢true e)
   failure-verdict t s silent e = refl
-  failure-verdict t s (rejected cause second) e = rw (eqb-true (action s cause second) 20 e)
+  failure-verdict t s (rejected cause second column) e = rw (eqb-true (action column cause second) 20 e)
 
   module _ (t s : ℕ) (o : Outcome) (a : Accepted g past t (outcome s o)) where
-    failure-20 : toBackOff s o ≡ true → nfmNow g past ≡ 1 → ruled g past (timed t (outcome s o)) ≡ answer 20 (nextWait g past s)
+    failure-20 : toBackOff o ≡ true → nfmNow g past ≡ 1 → ruled g past (timed t (outcome s o)) ≡ answer 20 (nextWait g past s)
     unfolding failed tells
     failure-20 e n =
         accepted-verdict g past t (outcome s o) a ∙ failure-verdict t s o e
         ∙ rw (eq-eqb (nfmNow g past) 1 n) (ap (answer 20) (next-wait s (service-low s o (a .in-range))))
 
-    failure-23 : toBackOff s o ≡ true → nfmNow g past ≢ 1 → ruled g past (timed t (outcome s o)) ≡ answer 23 0
+    failure-23 : toBackOff o ≡ true → nfmNow g past ≢ 1 → ruled g past (timed t (outcome s o)) ≡ answer 23 0
     unfolding failed tells
     failure-23 e n = accepted-verdict g past t (outcome s o) a ∙ failure-verdict t s o e ∙ rw (ne-eqb (nfmNow g past) 1 n)
 
-    failed-given : toBackOff s o ≡ true → Given g past (timed t (outcome s o)) (ruled g past (timed t (outcome s o)))
+    failed-given : toBackOff o ≡ true → Given g past (timed t (outcome s o)) (ruled g past (timed t (outcome s o)))
     failed-given e = go (eqb (nfmNow g past) 1) refl
       where
         go : (x : Bool) → eqb (nfmNow g past) 1 ≡ x → Given g past (timed t (outcome s o)) (ruled g past (timed t (outcome s o)))
         go true p = let n = eqb-true (nfmNow g past) 1 p in rw (failure-20 e n) (backed-off a e n)
         go false p = let n = eqb-false (nfmNow g past) 1 p in rw (failure-23 e n) (in-its-place a e n)
 
-  failure-other : (t s cause second : ℕ) → Accepted g past t (outcome s (rejected cause second)) → toBackOff s (rejected cause second) ≡ false
-      → ruled g past (timed t (outcome s (rejected cause second))) ≡ answer (action s cause second) 0
+  failure-other : (t s cause second column : ℕ) → Accepted g past t (outcome s (rejected cause second column)) → toBackOff (rejected cause second column) ≡ false
+      → ruled g past (timed t (outcome s (rejected cause second column))) ≡ answer (action column cause second) 0
   unfolding verdict failed
-  failure-other t s cause second a e = accepted-verdict g past t (outcome s (rejected cause second)) a ∙ rw e
+  failure-other t s cause second column a e = accepted-verdict g past t (outcome s (rejected cause second column)) a ∙ rw e
 
   -- ---- Any call
 
@@ -201,14 +202,14 @@ module _ (g : State) (past : List Entry) where
     accepted-given t (ask q) a = asked-given t q a up
     accepted-given t (outcome s granted) a = rw (accepted-verdict g past t (outcome s granted) a) (on-grant a)
     accepted-given t (outcome s silent) a = failed-given t s silent a refl
-    accepted-given t (outcome s (rejected cause second)) a = go (toBackOff s (rejected cause second)) refl
+    accepted-given t (outcome s (rejected cause second column)) a = go (toBackOff (rejected cause second column)) refl
       where
         c : Call
-        c = timed t (outcome s (rejected cause second))
+        c = timed t (outcome s (rejected cause second column))
 
-        go : (x : Bool) → toBackOff s (rejected cause second) ≡ x → Given g past c (ruled g past c)
-        go true e = failed-given t s (rejected cause second) a e
-        go false e = rw (failure-other t s cause second a e) (other-action a e)
+        go : (x : Bool) → toBackOff (rejected cause second column) ≡ x → Given g past c (ruled g past c)
+        go true e = failed-given t s (rejected cause second column) a e
+        go false e = rw (failure-other t s cause second column a e) (other-action a e)
     accepted-given t dropped a = rw (accepted-verdict g past t dropped a) (on-drop a)
     accepted-given t tick a = rw (accepted-verdict g past t tick a) (on-tick a)
 
@@ -246,7 +247,7 @@ module _ (g : State) (past : List Entry) where
     given-ruled _ _ (blocked {t = t} {q = q} {n = n} {L = L} {k = k} a free l v lower u) = sym (request-blocked t q a free n L k l v lower)
     given-ruled _ _ (backed-off {t = t} {s = s} {o = o} a e n) = sym (failure-20 t s o a e n)
     given-ruled _ _ (in-its-place {t = t} {s = s} {o = o} a e n) = sym (failure-23 t s o a e n)
-    given-ruled _ _ (other-action {t = t} {s = s} {cause = cause} {second = second} a e) = sym (failure-other t s cause second a e)
+    given-ruled _ _ (other-action {t = t} {s = s} {cause = cause} {second = second} {column = column} a e) = sym (failure-other t s cause second column a e)
 
     -- so no call is given two answers
     pub one-answer : (c : Call) (a b : Answer) → Given g past c a → Given g past c b → a ≡ b

@@ -50,33 +50,15 @@ set-four f e h (suc (suc (suc (suc u)))) =
 
 -- ---- Back-off
 
--- `row s` is how often service s backed off in a row; where b holds, service u does so once more, at time t with a wait by `w` of its failures
-module _ (b : Bool) (u : ℕ) (row : ℕ → ℕ) where
-  pub failures-more : cond b (set (four (λ s. min (row s) 255)) u (oneMore (getD (four (λ s. min (row s) 255)) u 0))) (four (λ s. min (row s) 255))
-      ≡ four (λ s. min (cond (b && eqb u s) (suc (row s)) (row s)) 255)
-  failures-more = go b
-    where
-      capped : (s : ℕ) (y : Bool) → cond y (oneMore (min (row s) 255)) (min (row s) 255) ≡ min (cond y (suc (row s)) (row s)) 255
-      capped s true = omega arith
-      capped s false = refl
+-- a service that backed off n times in a row; where b holds, it does so once more, at time t with a
+-- wait by `w` of its failures
+pub once-more : (b : Bool) (n : ℕ) → cond b (oneMore (min n 255)) (min n 255) ≡ min (cond b (suc n) n) 255
+once-more true n = omega arith
+once-more false n = refl
 
-      go : (x : Bool) → cond x (set (four (λ s. min (row s) 255)) u (oneMore (getD (four (λ s. min (row s) 255)) u 0))) (four (λ s. min (row s) 255))
-          ≡ four (λ s. min (cond (x && eqb u s) (suc (row s)) (row s)) 255)
-      go true = set-four (λ s. min (row s) 255) (λ s. min (row s) 255) oneMore u ∙ four-path (λ s. capped s (eqb u s))
-      go false = refl
-
-  pub ends-more : (end w : ℕ → ℕ) (t second : ℕ) → (b ≡ true → second ≡ w (oneMore (getD (four (λ s. min (row s) 255)) u 0)))
-      → cond b (set (four end) u (t + second)) (four end) ≡ four (λ s. cond (b && eqb u s) (t + w (min (cond (b && eqb u s) (suc (row s)) (row s)) 255)) (end s))
-  ends-more end w t second h = go b h
-    where
-      at : (s : ℕ) (y : Bool) → cond y (t + w (oneMore (min (row s) 255))) (end s) ≡ cond y (t + w (min (cond y (suc (row s)) (row s)) 255)) (end s)
-      at s true = let e : oneMore (min (row s) 255) ≡ min (suc (row s)) 255 = omega arith in ap (λ (n : ℕ). t + w n) e
-      at s false = refl
-
-      go : (x : Bool) → (x ≡ true → second ≡ w (oneMore (getD (four (λ s. min (row s) 255)) u 0)))
-          → cond x (set (four end) u (t + second)) (four end) ≡ four (λ s. cond (x && eqb u s) (t + w (min (cond (x && eqb u s) (suc (row s)) (row s)) 255)) (end s))
-      go true h = rw (h refl) (set-four (λ s. min (row s) 255) end (λ n. t + w (oneMore n)) u ∙ four-path (λ s. at s (eqb u s)))
-      go false h = refl
+pub end-more : (b : Bool) (n : ℕ) (w : ℕ → ℕ) (t end : ℕ) → cond b (t + w (oneMore (min n 255))) end ≡ cond b (t + w (min (cond b (suc n) n) 255)) end
+end-more true n w t end = ap (λ (m : ℕ). t + w m) (once-more true n)
+end-more false n w t end = refl
 
 -- where service u is cleared
 pub failures-cleared : (u : ℕ) (row : ℕ → ℕ) → set (four (λ s. min (row s) 255)) u 0 ≡ four (λ s. min (cond (eqb u s) 0 (row s)) 255)

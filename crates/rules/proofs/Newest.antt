@@ -183,7 +183,7 @@ unfolding verdict short
 verdict-same w s (timed t (ask q)) p = ask-same w s t (on-time (w .facts) t (ask q) p) q
 verdict-same w s (timed t (outcome _ granted)) p = refl
 verdict-same w s (timed t (outcome _ silent)) p = refl
-verdict-same w s (timed t (outcome _ (rejected _ _))) p = refl
+verdict-same w s (timed t (outcome _ (rejected _ _ _))) p = refl
 verdict-same w s (timed t dropped) p = refl
 verdict-same w s (timed t tick) p = refl
 verdict-same w s (typed (nfm _)) p = refl

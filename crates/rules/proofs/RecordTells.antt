@@ -9,14 +9,15 @@ use native.Mathlib.Nat.{sub-self}
 use native.Mathlib.Omega.{arith}
 use Rattle.rules.specs.declared.Answer.{Answer}
 use Rattle.rules.specs.Calls.{Opening, Counter, Outcome, Event, ask, outcome, granted, silent, rejected, dropped, tick, Line, nfm, nfm-start, intervals, query, bad, Call, timed, typed, Entry, entry}
+use Rattle.rules.specs.Causes.{both, reaches}
 use Rattle.rules.specs.Tables.{Kind, waitFor, moodOn, four, six, ofSix, rateOf}
 use Rattle.rules.specs.Record.{lastTime, nfmNow, startNow, intervalsNow, permitIn, permits, toBackOff, inARow, failures, backOffEnd, standsAsked, standing, mood, leaked, counter}
 use Rattle.rules.specs.Rules.{refusal, refused, wait, points, moved, onGranted, onFailed, onOutcome, acted, switched, obeyed, changed, enters, adds, learn, known}
 use Rattle.rules.specs.State.{State, Facts, Mode, withServices, idle}
 use Rattle.rules.specs.Rules.{answers, counted}
 use Rattle.rules.specs.Told.{tells, ruled, entered, onward, ruledAll, told, AsTold}
-use Rattle.rules.proofs.Checks.{accepted, on-time, refused-adds, Fails, outcome-fails}
-use Rattle.rules.proofs.Groups.{of-four, of-six, four-cond, six-path, set-four, failures-more, ends-more, failures-cleared, asked-four, counted-six}
+use Rattle.rules.proofs.Checks.{accepted, on-time, refused-adds, outcome-backs}
+use Rattle.rules.proofs.Groups.{of-four, of-six, four-cond, six-path, four-path, set-four, once-more, end-more, failures-cleared, asked-four, counted-six}
 use Rattle.rules.proofs.Leaks.{pointsTo, one-by-one}
 
 -- facts by their parts, and a path between two that agree on what was settled, on the time and on the mood
@@ -69,32 +70,31 @@ module _ (g : State) (past : List Entry) where
         (set-four (λ s. 0) (λ s. backOffEnd g s past) (λ n. 0) u)
         (set-four (λ s. 0) (λ s. standing g s past) (λ n. cond (eqb u 2) 2 0) u)
 
-    -- silence and rejection, answered 20 just where they back off, and then with the wait; d is service 2's mood
-    module _ (u : ℕ) (b : Bool) (backed : eqb (a .number) 20 ≡ b) (waited : b ≡ true → a .second ≡ wait (tells g past .facts) u) where
+    -- silence and rejection of service u; where b, those that they reach back off; d is service 2's mood
+    module _ (u : ℕ) (b two : Bool) where
       again : ℕ → Bool
-      again s = b && eqb u s
+      again s = b && reaches two u s
 
       row : ℕ → ℕ
       row s = cond (again s) (suc (inARow g s past)) (inARow g s past)
 
-      failed-tells : (d : ℕ) → withServices (moved t (tells g past .facts)) (onFailed t u a d (tells g past .facts .services))
+      failed-tells : (d : ℕ) → withServices (moved t (tells g past .facts)) (onFailed t u b two d (moved t (tells g past .facts)))
           ≡ factsOf o mode t (six (left t)) (four (λ s. min (row s) 255))
           (four (λ s. cond (again s) (t + waitFor (o .imsi) (intervalsNow g past) (min (row s) 255)) (backOffEnd g s past)))
           (four (λ s. cond (eqb u s) 0 (standing g s past))) (cond (eqb u 2) d (mood g past))
       unfolding moved tells failures left old o mode onFailed wait again row
       failed-tells d =
-          rw backed
-          (facts-path o mode t (cond (eqb u 2) d (mood g past)) (drained-all t late)
-          (failures-more b u (λ s. inARow g s past))
-          (ends-more b u (λ s. inARow g s past) (λ s. backOffEnd g s past) (waitFor (o .imsi) (intervalsNow g past)) t (a .second) waited)
-          (set-four (λ s. 0) (λ s. standing g s past) (λ n. 0) u))
+          facts-path o mode t (cond (eqb u 2) d (mood g past)) (drained-all t late)
+          (four-path (λ s. once-more (again s) (inARow g s past)))
+          (four-path (λ s. end-more (again s) (inARow g s past) (waitFor (o .imsi) (intervalsNow g past)) t (backOffEnd g s past)))
+          (set-four (λ s. 0) (λ s. standing g s past) (λ n. 0) u)
 
-    outcome-tells : (u : ℕ) (x : Outcome) → Fails (tells g past .facts) u (toBackOff u x) a
+    outcome-tells : (u : ℕ) (x : Outcome) → eqb (a .number) 20 ≡ (toBackOff x && eqb (nfmNow g past) 1)
         → acted t (outcome u x) a (moved t (tells g past .facts)) ≡ tells g (entry (timed t (outcome u x)) a ∷ past) .facts
     unfolding acted onOutcome moved tells lastTime nfmNow startNow intervalsNow inARow failures backOffEnd standing mood counter left old o mode again row
     outcome-tells u granted h = granted-tells u
-    outcome-tells u silent h = failed-tells u _ (h .backed) (h .waited) 1
-    outcome-tells u (rejected cause second) h = failed-tells u _ (h .backed) (h .waited) (moodOn cause)
+    outcome-tells u silent h = rw h (failed-tells u _ false 1)
+    outcome-tells u (rejected cause second column) h = rw h (failed-tells u _ (both column cause) (moodOn cause))
 
     dropped-tells : acted t dropped a (moved t (tells g past .facts)) ≡ tells g (entry (timed t dropped) a ∷ past) .facts
     unfolding acted onOutcome moved tells lastTime nfmNow startNow intervalsNow inARow failures backOffEnd standing mood counter left old o mode
@@ -137,8 +137,9 @@ module _ (g : State) (past : List Entry) where
 
   event-tells : (t : ℕ) (e : Event) → old ≤ t → refusal (tells g past .facts) (timed t e) ≡ 0
       → acted t e (ruled g past (timed t e)) (moved t (tells g past .facts)) ≡ tells g (entry (timed t e) (ruled g past (timed t e)) ∷ past) .facts
+  unfolding tells
   event-tells t (ask q) h z = ask-tells t _ h q
-  event-tells t (outcome u x) h z = outcome-tells t _ h u x (outcome-fails (tells g past) t u x z)
+  event-tells t (outcome u x) h z = outcome-tells t _ h u x (outcome-backs (tells g past) t u x z)
   event-tells t dropped h z = dropped-tells t _ h
   event-tells t tick h z = tick-tells t _ h
 

@@ -3,8 +3,8 @@
 use Prim.Native.Nat.{ℕ}
 use mathlib.Core.List.{List}
 use Rattle.rules.specs.declared.Answer.{Answer}
--- what became of a request: granted, no answer, or rejected with a cause and whether a second
--- network exists, 1 where one does
+-- what became of a request: granted, no answer, or rejected with a cause, whether a second network
+-- exists, 1 where one does, and the cause's column: 0 MM, 1 GMM, 2 SM, 3 RP, 4 CP
 pub use Rattle.rules.specs.declared.Outcome.{Outcome}
 pub use Rattle.rules.specs.declared.Outcome.the-variants.{Granted as granted, Silent as silent, Rejected as rejected}
 -- what happens at a time: request q, an outcome of service s, service 2 dropped, or nothing but the

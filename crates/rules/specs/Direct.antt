@@ -9,18 +9,28 @@ use mathlib.Core.List.{List, [], _∷_, _++_}
 use mathlib.Core.Logic.{_⊎_, _≢_}
 use Rattle.rules.specs.declared.Answer.{Answer}
 use Rattle.rules.specs.Calls.{Opening, Outcome, Event, ask, outcome, granted, silent, rejected, dropped, tick, Line, nfm, nfm-start, intervals, query, bad, Call, timed, typed, Entry, entry, answer}
-use Rattle.rules.specs.Tables.{highestTime, inHour, freeIn, Kind, attach, activation, pdp, sms, reset, among, limiting, rank, action, oneMore, waitFor, scheduled}
+use Rattle.rules.specs.Causes.{action}
+use Rattle.rules.specs.Tables.{highestTime, inHour, freeIn, Kind, attach, activation, pdp, sms, reset, among, limiting, rank, oneMore, waitFor, scheduled}
 use Rattle.rules.specs.State.{State}
 use Rattle.rules.specs.Record.{lastTime, nfmNow, intervalsNow, permits, toBackOff, failures, backOffEnd, standing, mood}
 
 -- ---- What is in range, and well-formed
 
--- 2: "service, request, cause, flag .. out of range"
+-- "Services 0 (MM causes), 1 (GMM)", 2 (SM) "and 3 (RP, CP)": the columns of a service
+pub data Has : (s column : ℕ) → Type 0 where
+  MM : Has 0 0
+  GMM : Has 1 1
+  SM : Has 2 2
+  RP : Has 3 3
+  CP : Has 3 4
+
+-- 2: "service, request, cause, flag .. out of range", "an unknown column or one that doesn't belong
+-- to the service"
 abbrev pub InRange : Event → Type 0
 InRange (ask q) = q ≤ 5
 InRange (outcome s granted) = s ≤ 3
 InRange (outcome s silent) = s ≤ 3
-InRange (outcome s (rejected cause second)) = (s ≤ 3) × ((cause ≤ 255) × (second ≤ 1))
+InRange (outcome s (rejected cause second column)) = Has s column × ((cause ≤ 255) × (second ≤ 1))
 InRange dropped = Unit {0}
 InRange tick = Unit {0}
 
@@ -114,7 +124,7 @@ module _ (g : State) (past : List Entry) where
   -- call c is an accepted outcome that backs off: silence, or a rejection whose cause asks for it,
   -- while NFM is 1
   pub data BacksOff : Call → Type 0 where
-    backs-off : {t s : ℕ} {o : Outcome} → Accepted t (outcome s o) → toBackOff s o ≡ true → nfmNow g past ≡ 1
+    backs-off : {t s : ℕ} {o : Outcome} → Accepted t (outcome s o) → toBackOff o ≡ true → nfmNow g past ≡ 1
         → BacksOff (timed t (outcome s o))
 
   -- ---- "Numbers given back": call c is given an answer
@@ -141,13 +151,13 @@ module _ (g : State) (past : List Entry) where
         → ((n' L' : ℕ) (k' : Kind) → rank n' < rank n → Limited q n' L' k' → Over t L' k' → ⊥)
         → Until t L k (freeIn t L (permits g k past)) → Given (timed t (ask q)) (answer n (freeIn t L (permits g k past)))
     -- 20: "backed off", "the wait"; "With NFM 0 .. the answer is 23 in place of 20"
-    backed-off : {t s : ℕ} {o : Outcome} → Accepted t (outcome s o) → toBackOff s o ≡ true → nfmNow g past ≡ 1
+    backed-off : {t s : ℕ} {o : Outcome} → Accepted t (outcome s o) → toBackOff o ≡ true → nfmNow g past ≡ 1
         → Given (timed t (outcome s o)) (answer 20 (nextWait s))
-    in-its-place : {t s : ℕ} {o : Outcome} → Accepted t (outcome s o) → toBackOff s o ≡ true → nfmNow g past ≢ 1
+    in-its-place : {t s : ℕ} {o : Outcome} → Accepted t (outcome s o) → toBackOff o ≡ true → nfmNow g past ≢ 1
         → Given (timed t (outcome s o)) (answer 23 0)
-    -- 21, 22, 23: "re-attach, other network, as 3GPP", by the table of causes
-    other-action : {t s cause second : ℕ} → Accepted t (outcome s (rejected cause second)) → toBackOff s (rejected cause second) ≡ false
-        → Given (timed t (outcome s (rejected cause second))) (answer (action s cause second) 0)
+    -- 21, 22, 23: "re-attach, other network, as 3GPP", and 24 to 28, by the rows of causes
+    other-action : {t s cause second column : ℕ} → Accepted t (outcome s (rejected cause second column)) → toBackOff (rejected cause second column) ≡ false
+        → Given (timed t (outcome s (rejected cause second column))) (answer (action column cause second) 0)
 
   -- ---- The sentences of demand 3; `next` is how the next call is answered
 

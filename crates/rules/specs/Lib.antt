@@ -1,5 +1,6 @@
 pub mod Calls
 pub mod Tables
+pub mod Causes
 pub mod State
 pub mod Leaves
 pub mod Record

@@ -8,7 +8,8 @@ use lib.ListN.{getD}
 use lib.Dec.{ltb, leb, eqb}
 use Rattle.rules.specs.Calls.{Counter, Outcome, ask, outcome, granted, silent, rejected, dropped, tick, nfm, nfm-start, intervals, query, bad, Call, timed, typed, Entry}
 use Rattle.rules.specs.State.{State}
-use Rattle.rules.specs.Tables.{Kind, goes, action, moodOn, oneMore, waitFor, rateOf, raises, ofSix}
+use Rattle.rules.specs.Causes.{action, both, reaches}
+use Rattle.rules.specs.Tables.{Kind, goes, moodOn, oneMore, waitFor, rateOf, raises, ofSix}
 
 -- ---- The last time: that of the newest timed call, and before any the start's
 
@@ -82,7 +83,7 @@ abbrev pub clears : ℕ → Call → Bool
 clears s (timed t (ask q)) = false
 clears s (timed t (outcome u granted)) = eqb u s
 clears s (timed t (outcome u silent)) = false
-clears s (timed t (outcome u (rejected cause second))) = false
+clears s (timed t (outcome u (rejected cause second column))) = false
 clears s (timed t dropped) = false
 clears s (timed t tick) = false
 clears s (typed (nfm a)) = eqb a 0
@@ -91,17 +92,23 @@ clears s (typed (intervals l)) = false
 clears s (typed query) = false
 clears s (typed bad) = false
 
--- what asks to back off: silence, and a rejection whose cause does
-abbrev pub toBackOff : ℕ → Outcome → Bool
-toBackOff s granted = false
-toBackOff s silent = true
-toBackOff s (rejected cause second) = eqb (action s cause second) 20
+-- what asks to back off: silence, and a rejection whose row does
+abbrev pub toBackOff : Outcome → Bool
+toBackOff granted = false
+toBackOff silent = true
+toBackOff (rejected cause second column) = eqb (action column cause second) 20
+
+-- and on whose behalf: for both registrations, or for its own service alone
+abbrev pub forBoth : Outcome → Bool
+forBoth granted = false
+forBoth silent = false
+forBoth (rejected cause second column) = both column cause
 
 -- an accepted call makes service s back off, where NFM was n before it: with NFM 0 nothing is timed
 -- or counted
 abbrev pub backsOff : ℕ → (n : ℕ) → Call → Bool
 backsOff s n (timed t (ask q)) = false
-backsOff s n (timed t (outcome u o)) = (toBackOff u o && eqb n 1) && eqb u s
+backsOff s n (timed t (outcome u o)) = (toBackOff o && eqb n 1) && reaches (forBoth o) u s
 backsOff s n (timed t dropped) = false
 backsOff s n (timed t tick) = false
 backsOff s n (typed l) = false
@@ -135,7 +142,7 @@ abbrev pub standsAfter : ℕ → Call → ℕ → ℕ → ℕ
 standsAfter s (timed t (ask q)) n before = cond (eqb n 0) (standsAsked s q before) before
 standsAfter s (timed t (outcome u granted)) n before = cond (eqb u s) (cond (eqb u 2) 2 0) before
 standsAfter s (timed t (outcome u silent)) n before = cond (eqb u s) 0 before
-standsAfter s (timed t (outcome u (rejected cause second))) n before = cond (eqb u s) 0 before
+standsAfter s (timed t (outcome u (rejected cause second column))) n before = cond (eqb u s) 0 before
 standsAfter s (timed t dropped) n before = cond (eqb 2 s) 0 before
 standsAfter s (timed t tick) n before = before
 standsAfter s (typed l) n before = before
@@ -150,7 +157,7 @@ abbrev pub moodAfter : Call → ℕ → ℕ
 moodAfter (timed t (ask q)) before = before
 moodAfter (timed t (outcome s granted)) before = cond (eqb s 2) 0 before
 moodAfter (timed t (outcome s silent)) before = cond (eqb s 2) 1 before
-moodAfter (timed t (outcome s (rejected cause second))) before = cond (eqb s 2) (moodOn cause) before
+moodAfter (timed t (outcome s (rejected cause second column))) before = cond (eqb s 2) (moodOn cause) before
 moodAfter (timed t dropped) before = before
 moodAfter (timed t tick) before = before
 moodAfter (typed l) before = before

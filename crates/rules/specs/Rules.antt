@@ -7,7 +7,8 @@ use lib.Dec.{ltb, leb, eqb}
 use Rattle.rules.specs.declared.Answer.{Answer}
 use Rattle.rules.specs.Calls.{Outcome, Event, ask, outcome, granted, silent, rejected, dropped, tick, Line, nfm, nfm-start, intervals, query, bad, Call, timed, typed, answer}
 use Rattle.rules.specs.State.{Facts, Services, State, withLast, withMode, withCounters, withServices, withStanding, withBackoffs, idle}
-use Rattle.rules.specs.Tables.{highestTime, inHour, freeIn, Kind, attach, activation, pdp, sms, reset, goes, among, refusals, counting, action, moodOn, oneMore, waitFor, scheduled}
+use Rattle.rules.specs.Causes.{action, both, reaches, belongs}
+use Rattle.rules.specs.Tables.{highestTime, inHour, freeIn, Kind, attach, activation, pdp, sms, reset, goes, among, refusals, counting, moodOn, oneMore, waitFor, scheduled, four}
 
 -- ---- The limits
 
@@ -54,12 +55,12 @@ firstBlock w t (r ∷ rs) = cond (blocks w t r) (blockedBy w t r) (firstBlock w 
 abbrev pub check : Bool → ℕ → ℕ → ℕ
 check ok n rest = cond ok rest n
 
--- 2: request, service, cause and flag in range
+-- 2: request, service, cause and flag in range, and a column of the service
 unfoldable pub inRange : Event → Bool
 inRange (ask q) = leb q 5
 inRange (outcome s granted) = leb s 3
 inRange (outcome s silent) = leb s 3
-inRange (outcome s (rejected cause second)) = leb s 3 && (leb cause 255 && leb second 1)
+inRange (outcome s (rejected cause second column)) = leb s 3 && (leb cause 255 && (leb second 1 && belongs column s))
 inRange dropped = true
 inRange tick = true
 
@@ -107,7 +108,7 @@ verdict w (timed t (ask q)) =
     (firstBlock w t (limits (w .facts) q))
 verdict w (timed t (outcome s granted)) = answer 0 0
 verdict w (timed t (outcome s silent)) = failed (w .facts) s 20
-verdict w (timed t (outcome s (rejected cause second))) = failed (w .facts) s (action s cause second)
+verdict w (timed t (outcome s (rejected cause second column))) = failed (w .facts) s (action column cause second)
 verdict w (timed t dropped) = answer 0 0
 verdict w (timed t tick) = answer 0 0
 verdict w (typed (nfm a)) = answer 0 4
@@ -165,27 +166,30 @@ onGranted s v = record {
   mood = cond (eqb s 2) 0 (v .mood);
 }
 
--- after a rejection or silence at t that was answered a; d is service 2's mood
-unfoldable pub onFailed : ℕ → ℕ → Answer → ℕ → Services → Services
-onFailed t s a d v = record {
-  failures = cond (eqb (a .number) 20) (set (v .failures) s (oneMore (getD (v .failures) s 0))) (v .failures);
-  ends = cond (eqb (a .number) 20) (set (v .ends) s (t + a .second)) (v .ends);
-  standing = set (v .standing) s 0;
-  mood = cond (eqb s 2) d (v .mood);
-}
+-- after a rejection or silence of service s at t; where `back`, each service that it reaches backs
+-- off by its own failures and wait; d is service 2's mood
+unfoldable pub onFailed : ℕ → ℕ → (back both : Bool) → ℕ → Facts → Services
+onFailed t s back both d f =
+    let v = f .services in
+    record {
+      failures = four (λ u. cond (back && reaches both s u) (oneMore (getD (v .failures) u 0)) (getD (v .failures) u 0));
+      ends = four (λ u. cond (back && reaches both s u) (t + wait f u) (getD (v .ends) u 0));
+      standing = set (v .standing) s 0;
+      mood = cond (eqb s 2) d (v .mood);
+    }
 
 -- after an outcome of service s at t that was answered a
-unfoldable pub onOutcome : ℕ → ℕ → Outcome → Answer → Services → Services
-onOutcome t s granted a v = onGranted s v
-onOutcome t s silent a v = onFailed t s a 1 v
-onOutcome t s (rejected cause second) a v = onFailed t s a (moodOn cause) v
+unfoldable pub onOutcome : ℕ → ℕ → Outcome → Answer → Facts → Services
+onOutcome t s granted a f = onGranted s (f .services)
+onOutcome t s silent a f = onFailed t s (eqb (a .number) 20) false 1 f
+onOutcome t s (rejected cause second column) a f = onFailed t s (eqb (a .number) 20) (both column cause) (moodOn cause) f
 
 -- what event e at t, answered a, does beyond the clock
 unfoldable pub acted : ℕ → Event → Answer → Facts → Facts
 acted t (ask q) a f =
     let v = f .services in
     withServices (withCounters f (counted (a .number) (f .counters))) (withStanding v (cond (eqb (a .number) 0) (asked q (v .standing)) (v .standing)))
-acted t (outcome s o) a f = withServices f (onOutcome t s o a (f .services))
+acted t (outcome s o) a f = withServices f (onOutcome t s o a f)
 acted t dropped a f = withServices f (withStanding (f .services) (set (f .services .standing) 2 0))
 acted t tick a f = f
 

@@ -1,6 +1,6 @@
 -- Document 01's tables and formulas that hang on nothing but their arguments. Assumes nothing.
 use Prim.Native.Nat.{ℕ, suc, _+_, _-_, _%_, min}
-use mathlib.Core.Bool.{Bool, true, false, cond, not, _&&_, _||_}
+use mathlib.Core.Bool.{Bool, true, false, cond, _&&_, _||_}
 use mathlib.Core.List.{List, [], _∷_}
 use lib.ListN.{length, getD}
 use lib.Dec.{ltb, leb, eqb}
@@ -70,15 +70,7 @@ rank n = placeIn limiting n
 abbrev pub counting : List ℕ
 counting = 11 ∷ 13 ∷ 14 ∷ 15 ∷ 16 ∷ []
 
--- ---- Causes
-
--- what to do on a cause of service s: 20 back off, 21 re-attach, 22 other network, 23 as 3GPP says
-unfoldable pub action : ℕ → ℕ → ℕ → ℕ
-action s cause second =
-    cond (not (eqb s 2)) 20
-    (cond (among cause (8 ∷ 26 ∷ 27 ∷ 29 ∷ 30 ∷ 31 ∷ 32 ∷ 33 ∷ 35 ∷ [])) 20
-    (cond (eqb cause 28) 21
-    (cond (eqb cause 34) (cond (eqb second 1) 22 20) 23)))
+-- ---- The mood on a cause
 
 -- the mood of service 2 after a rejection: 2 permanent, 3 temporary
 unfoldable pub moodOn : ℕ → ℕ

@@ -13,12 +13,12 @@ pub struct Answer {
     pub second: u32,
 }
 
-// What became of a request: granted, no answer, or rejected with a cause and whether a second
-// network exists, 1 where one does.
+// What became of a request: granted, no answer, or rejected with a cause, whether a second network
+// exists, 1 where one does, and the cause's column: 0 MM, 1 GMM, 2 SM, 3 RP, 4 CP.
 pub enum Outcome {
     Granted,
     Silent,
-    Rejected(u32, u32),
+    Rejected(u32, u32, u32),
 }
 
 // What happens at a time: a request, an outcome of a service, service 2 dropped, or nothing but the

@@ -1,40 +1,50 @@
 -- `causes::action` meets its contract. Assumes nothing.
+use native.Mathlib.Omega.{arith}
 use borrow.Author.Tests.{eq-eqb, ne-eqb}
-use Rattle.rules.specs.Tables.{action}
-use Rattle.causes.proofs.Causes.{action-beyond, action-other, action-22}
+use Rattle.rules.specs.Causes.{printed}
+use Rattle.causes.proofs.Causes.{entry-tells, entry-low}
 use borrow.Author.Needs.{needs}
 use Rattle.causes.proofs.action.Statement.{statement}
 use Rattle.causes.proofs.action.Tie as tie
 
+entry-requires : tie.Need-entry-requires
+entry-requires c κs = search needs
+
 returns : tie.Need-returns
-unfolding action
-returns c = rw (ne-eqb _ _ (c .if1 .taken))
+returns c =
+    let a = c .before .before .args in
+    rw (eq-eqb _ _ (c .if1 .taken)) at (entry-tells (a .column) (a .cause) (a .second) (c .before .entry .ensures))
 
 returns-2 : tie.Need-returns-2
-returns-2 c = rw (c .before .if1 .left) (action-beyond (c .before .before .args .cause) (c .before .before .args .second) (c .if2 .taken))
+returns-2 c =
+    let a = c .before .before .before .args in
+    rw (ne-eqb _ _ (c .before .if1 .left), eq-eqb _ _ (c .if2 .taken)) at (entry-tells (a .column) (a .cause) (a .second) (c .before .before .entry .ensures))
 
-listed-requires : tie.Need-listed-requires
-listed-requires c κs = search needs
+cast-result : tie.Need-cast-result
+cast-result c = search needs
+
+sub-result : tie.Need-sub-result
+sub-result c =
+    let a = c .before .before .before .before .args in
+    omega (arith, c .before .before .before .entry .ensures, entry-low (printed (a .column) (a .cause) .action))
 
 returns-3 : tie.Need-returns-3
 returns-3 c =
     let a = c .before .before .before .before .args in
-    let n = c .before .listed in
-    rw (c .before .before .before .if1 .left) (action-other (n .result) (a .cause) (a .second) (n .ensures) (c .if3 .taken))
+    rw (ne-eqb _ _ (c .before .before .if1 .left), ne-eqb _ _ (c .before .if2 .left), ne-eqb _ _ (c .if3 .taken)) at
+    (entry-tells (a .column) (a .cause) (a .second) (c .before .before .before .entry .ensures))
 
 returns-4 : tie.Need-returns-4
 returns-4 c =
     let a = c .before .before .before .before .before .args in
-    let n = c .before .before .listed in
-    let e = action-22 (n .result) (a .cause) (a .second) (n .ensures) (c .before .if3 .left) in
-    rw (c .before .before .before .before .if1 .left) (rw (eq-eqb _ _ (c .if4 .taken)) at e)
+    rw (c .before .if3 .left, eq-eqb _ _ (c .if4 .taken)) at
+    (entry-tells (a .column) (a .cause) (a .second) (c .before .before .before .before .entry .ensures))
 
 returns-5 : tie.Need-returns-5
 returns-5 c =
     let a = c .before .before .before .before .before .args in
-    let n = c .before .before .listed in
-    let e = action-22 (n .result) (a .cause) (a .second) (n .ensures) (c .before .if3 .left) in
-    rw (c .before .before .before .before .if1 .left) (rw (ne-eqb _ _ (c .if4 .left)) at e)
+    rw (c .before .if3 .left, ne-eqb _ _ (c .if4 .left)) at
+    (entry-tells (a .column) (a .cause) (a .second) (c .before .before .before .before .entry .ensures))
 
 pub action-spec : {M : Type 1} → statement M
-action-spec = tie.close (tie.spec returns returns-2 listed-requires returns-3 returns-4 returns-5)
+action-spec = tie.close (tie.spec entry-requires returns returns-2 cast-result sub-result returns-3 returns-4 returns-5)

@@ -35,19 +35,26 @@ returns-3 c = let a = c .before .before .before .before .args in sym (event-of (
 
 shared-slice-read-t13 : tie.Need-shared-slice-read-t13
 unfolding howMany
-shared-slice-read-t13 c = omega (arith, many-of (c .before .before .before .before .before .args .x) letterJ (c .before .if4 .taken) 4 refl)
+shared-slice-read-t13 c = omega (arith, many-of (c .before .before .before .before .before .args .x) letterJ (c .before .if4 .taken) 5 refl)
 
 shared-slice-read-t15 : tie.Need-shared-slice-read-t15
 unfolding howMany
-shared-slice-read-t15 c = omega (arith, many-of (c .before .before .before .before .before .before .args .x) letterJ (c .before .before .if4 .taken) 4 refl)
+shared-slice-read-t15 c = omega (arith, many-of (c .before .before .before .before .before .before .args .x) letterJ (c .before .before .if4 .taken) 5 refl)
 
 shared-slice-read-t17 : tie.Need-shared-slice-read-t17
 unfolding howMany
-shared-slice-read-t17 c = omega (arith, many-of (c .before .before .before .before .before .before .before .args .x) letterJ (c .before .before .before .if4 .taken) 4 refl)
+shared-slice-read-t17 c = omega (arith, many-of (c .before .before .before .before .before .before .before .args .x) letterJ (c .before .before .before .if4 .taken) 5 refl)
+
+shared-slice-read-t19 : tie.Need-shared-slice-read-t19
+unfolding howMany
+shared-slice-read-t19 c = omega (arith, many-of (c .before .before .before .before .before .before .before .before .args .x) letterJ (c .before .before .before .before .if4 .taken) 5 refl)
 
 returns-4 : tie.Need-returns-4
 unfolding eventOf
-returns-4 c = let a = c .before .before .before .before .before .before .before .args in sym (event-of (a .x) letterJ (c .before .before .before .if4 .taken) (a .v .now) (outcome (getD (a .v .now) 1 0) (rejected (getD (a .v .now) 2 0) (getD (a .v .now) 3 0))) refl)
+returns-4 c =
+    let a = c .before .before .before .before .before .before .before .before .args in
+    let v = a .v .now in
+    sym (event-of (a .x) letterJ (c .before .before .before .before .if4 .taken) v (outcome (getD v 1 0) (rejected (getD v 2 0) (getD v 3 0) (getD v 4 0))) refl)
 
 returns-5 : tie.Need-returns-5
 unfolding eventOf
@@ -71,6 +78,7 @@ event-spec =
     shared-slice-read-t13
     shared-slice-read-t15
     shared-slice-read-t17
+    shared-slice-read-t19
     returns-4
     returns-5
     returns-6)

@@ -20,7 +20,7 @@ returns-3 c = sym (many-of (c .before .before .before .args .x) letterS (c .if3 
 
 returns-4 : tie.Need-returns-4
 unfolding howMany
-returns-4 c = sym (many-of (c .before .before .before .before .args .x) letterJ (c .if4 .taken) 4 refl)
+returns-4 c = sym (many-of (c .before .before .before .before .args .x) letterJ (c .if4 .taken) 5 refl)
 
 returns-5 : tie.Need-returns-5
 unfolding howMany

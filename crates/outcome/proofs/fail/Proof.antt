@@ -1,4 +1,12 @@
 -- `outcome::fail` meets its contract. Assumes nothing.
+use mathlib.Core.Path.{_≡_, ap, _∙_}
+use mathlib.Core.Bool.{true}
+use Prim.Native.Nat.{ℕ}
+use lib.Dec.{eqb}
+use Rattle.rules.specs.declared.Answer.{Answer}
+use Rattle.rules.specs.Rules.{wait}
+use Rattle.rules.proofs.Checks.{failed-wait}
+use Rattle.buffer.specs.Layout.{factsOf}
 use Rattle.backoff.proofs.Backoffs.{end-fits}
 use Rattle.outcome.proofs.Outcomes.{fails}
 use borrow.Author.Needs.{needs}
@@ -27,9 +35,12 @@ same-length c = search needs
 returns : tie.Need-returns
 returns c =
     let x = c .before .before .before .before .before .before .before .before .before .before .before .before .before .before .before in
-    let a = c .before .before .before .before .before .before .before .before .before .before .before .before .failing in (
+    let i : ℕ = x .args .i in
+    let a = c .before .before .before .before .before .before .before .before .before .before .before .before .failing in
+    let long : eqb (a .result .number) 20 ≡ true → a .result .second ≡ wait (factsOf (x .args .s .now)) i =
+    λ e. ap (λ (y : Answer). y .second) (a .ensures) ∙ failed-wait (factsOf (x .args .s .now)) i (x .args .n) (rw (← a .ensures) e) in (
       a .ensures,
-      fails (x .args .s .now) (x .pre .1 .0) (x .args .t) (x .args .i) (x .pre .1 .1 .0) (x .args .n) (a .result) (a .ensures) (x .args .m)
+      fails (x .args .s .now) (x .pre .1 .0) (x .args .t) i (x .pre .1 .1 .0) (a .result .number) (x .args .m) (a .result .second) long
           (c .before .before .before .before .before .before .before .before .before .before .advance .ensures) (c .before .before .before .before .before .before .rest .ensures) (c .before .before .back .ensures),
     )
 
