@@ -17,7 +17,8 @@
  *     if (a.number == DIALCHISEL_DONE) {
  *         switch (ask_the_network(&cause)) {
  *         case GRANTED:  a = dialchisel_granted(state, DIALCHISEL_STATE, now(), DIALCHISEL_PDP); break;
- *         case REJECTED: a = dialchisel_rejected(state, DIALCHISEL_STATE, now(), DIALCHISEL_PDP, cause, 0); break;
+ *         case REJECTED: a = dialchisel_rejected(state, DIALCHISEL_STATE, now(), DIALCHISEL_PDP,
+ *                                                cause, 0, DIALCHISEL_COLUMN_SM); break;
  *         default:       a = dialchisel_silent(state, DIALCHISEL_STATE, now(), DIALCHISEL_PDP); break;
  *         }
  *     } else if (a.number >= DIALCHISEL_BLOCKED_BACKOFF && a.number <= DIALCHISEL_BLOCKED_S1) {
@@ -35,8 +36,9 @@
  * - A refused call (numbers 1 to 5) changes nothing in any buffer. const buffers are never written.
  * - The library keeps no state of its own, allocates nothing, waits for nothing, and calls nothing but memmove and memset. Different
  *   states may be used at the same time.
- * - The state holds no pointers: it may be copied, saved and brought back. Each call but opening first checks all of it against the
- *   table at the end of this file, and refuses with 1 what does not fit.
+ * - The state holds no pointers: it may be copied, saved and brought back. Each call that is given
+ *   it, but opening, first checks all of it against the table at the end of this file, and refuses
+ *   with 1 what does not fit. dialchisel_error alone is given none.
  */
 #ifndef DIALCHISEL_H
 #define DIALCHISEL_H
@@ -75,17 +77,29 @@ enum dialchisel_kind {
 /* Whom an outcome comes from. */
 enum dialchisel_service { DIALCHISEL_GSM = 0, DIALCHISEL_GPRS = 1, DIALCHISEL_PDP = 2, DIALCHISEL_SMS = 3 };
 
-/* The first number given back. The second is 0 but for 0 (bytes written by command and counters), 10 (seconds left), 11 and 13 to 18
- * (seconds until that limit by itself would permit) and 20 (the wait in seconds); in dialchisel_why it is the bits of the rules, and there a
- * block moves and counts nothing. Checks run in the order 1, 2, 3, 4, or 1, 5 for an AT line; then 10, then the limits in the order of
- * their numbers: the first that blocks is the one told, and it alone counts. Treat a number that is not here as "no": later versions may
- * add some from 24 up. */
+/* The column of section 7.5 of CLP.03 that a cause stands in. Each belongs to one service. */
+enum dialchisel_column {
+    DIALCHISEL_COLUMN_MM = 0,  /* DIALCHISEL_GSM */
+    DIALCHISEL_COLUMN_GMM = 1, /* DIALCHISEL_GPRS */
+    DIALCHISEL_COLUMN_SM = 2,  /* DIALCHISEL_PDP */
+    DIALCHISEL_COLUMN_RP = 3,  /* DIALCHISEL_SMS */
+    DIALCHISEL_COLUMN_CP = 4   /* DIALCHISEL_SMS too */
+};
+
+/* The first number given back. The second is 0 but for 0 (bytes written by command and counters,
+ * the number that error tells), 10 (seconds left), 11 and 13 to 18 (seconds until that limit by
+ * itself would permit) and 20 (the wait in seconds); in dialchisel_why it is the bits of the rules,
+ * and there a block moves and counts nothing. Checks run in the order 1, 2, 3, 4, or 1, 5 for an AT
+ * line; then 10, then the limits in the order of their numbers: the first that blocks is the one
+ * told, and it alone counts. Treat a number that is not here as "no": later versions may add
+ * some. */
 enum dialchisel_number {
     DIALCHISEL_DONE = 0,              /* done or permitted */
     /* Refused: nothing changed. */
     DIALCHISEL_REFUSED_BUFFER = 1,    /* state not 1,330 numbers or damaged (opening asks the length only), AT room under 16, counter room
                                        * not 32, room of why not 8 */
-    DIALCHISEL_REFUSED_RANGE = 2,     /* service, kind, cause, flag or setting out of range; at opening, a bad file */
+    DIALCHISEL_REFUSED_RANGE = 2,     /* service, kind, cause, flag, column or setting out of range;
+                                       * a column of another service; at opening, a bad file */
     DIALCHISEL_REFUSED_TIME = 3,      /* time below the last one or above 4,000,000,000; opening needs no earlier time */
     DIALCHISEL_REFUSED_STANDING = 4,  /* the service does not stand where the call needs it */
     DIALCHISEL_REFUSED_LINE = 5,      /* not an AT line of the four forms below */
@@ -100,11 +114,19 @@ enum dialchisel_number {
     DIALCHISEL_BLOCKED_F4 = 16,       /* activations and deactivations in the hour. C-PDP-4 */
     DIALCHISEL_BLOCKED_A1 = 17,       /* attaches in the hour: a limit of this house. No counter */
     DIALCHISEL_BLOCKED_S1 = 18,       /* SMS in the hour: a limit of this house. No counter */
-    /* Advice, from rejected and silent. The outcome is taken. */
+    /* Advice, from rejected and silent. The outcome is taken. All but 20 leave failures and
+     * back-offs as they are and hold no later request: whether the PLMN, the area or the cell is
+     * still the same, and whether somebody outside prompts, the gate cannot know. */
     DIALCHISEL_BACKED_OFF = 20,       /* a back-off began; second: the wait in seconds, at least the interval and less than twice it */
-    DIALCHISEL_REATTACH = 21,
-    DIALCHISEL_OTHER_NETWORK = 22,
-    DIALCHISEL_AS_3GPP = 23           /* go on as 3GPP says; also in place of 20 while NFM is 0 */
+    DIALCHISEL_REATTACH = 21,         /* detach from GPRS and attach again */
+    DIALCHISEL_OTHER_NETWORK = 22,    /* try the second network */
+    DIALCHISEL_AS_3GPP = 23,          /* go on as 3GPP says; also in place of 20 while NFM is 0 */
+    DIALCHISEL_NOT_SAME_PLMN = 24,    /* not again on the same PLMN unless prompted from outside */
+    DIALCHISEL_NOT_SAME_AREA = 25,    /* not again in the same location area, likewise */
+    DIALCHISEL_NOT_SAME_CELL = 26,    /* not again in the same cell, likewise */
+    DIALCHISEL_MAY_REACTIVATE = 27,   /* PDP may be activated again at once */
+    DIALCHISEL_MAY_REESTABLISH = 28   /* PDP may be established again at once; whether it backs off
+                                       * if that fails too is for that next outcome to say */
 };
 
 /* The rules that can stand against a request, in the order of their numbers: bit i of the second number of dialchisel_why, and times[i]. */
@@ -168,15 +190,34 @@ struct dialchisel_answer dialchisel_why(const uint32_t *state, size_t state_coun
  * Answers 0, or refuses with 1 to 4. */
 struct dialchisel_answer dialchisel_granted(uint32_t *state, size_t state_count, uint32_t time, uint32_t service);
 
-/* The network rejected what was asked of a service, with a cause of 0 to 255 (GSM: MM, GPRS: GMM, PDP: SM, SMS: RP or CP). `second` is 1
- * if a second network exists, else 0. Needs the service asked; makes it idle. PDP backs off on causes 8, 26, 27, 29 to 33 and 35;
- * re-attaches on 28; on 34 takes the other network if there is one, else backs off; on the rest it is as 3GPP says. The other services
- * back off on every cause. Each failure in a row takes the next interval, or the last. Answers 20 to 23, or refuses with 1 to 4. */
+/* The network rejected what was asked of a service, with a cause of 0 to 255 in a column that
+ * belongs to the service: GSM's is MM, GPRS's GMM, PDP's SM, SMS's RP or CP. `second` is 1 if a
+ * second network exists, else 0. Needs the service asked; makes it idle. The answer is the action
+ * that section 7.5 of CLP.03 has for the cause, and 23 for every cause that is not here:
+ *
+ *            20                                         21  22  24      25      26  27  28
+ *     MM     2, 3, 5, 6, 8, 9, 17, 22, 34                       11      12, 13  15
+ *     GMM    2, 3, 6, 7, 8, 9, 16, 17, 22                       11, 14  12, 13  15
+ *     SM     8, 26, 27, 29 to 33, 35, 38                28  34                      36  39
+ *     RP     8, 10, 21, 22, 28, 29, 30, 38, 41, 42,
+ *            47, 50, 69, 81
+ *     CP     17, 21
+ *
+ * SM 34 is 20 where no second network exists. MM 8 and 9 and GMM 2, 3, 6, 8 and 9 back off both
+ * registrations, each by its own failures: 20 has the wait of the rejected one, and the other,
+ * asked or idle, stays so. Each failure in a row takes the next interval, or the last. Answers 20
+ * to 28, or refuses with 1 to 4. */
 struct dialchisel_answer dialchisel_rejected(uint32_t *state, size_t state_count, uint32_t time, uint32_t service,
-                                             uint32_t cause, uint32_t second);
+                                             uint32_t cause, uint32_t second, uint32_t column);
 
-/* The network did not answer what was asked of a service. Needs the service asked; makes it idle, and backs off. Answers 20 or 23, or
- * refuses with 1 to 4. */
+/* The number for the AT side that section 7.5 of CLP.03 has beside a cause: one of +CME ERROR in
+ * the columns MM, GMM and SM, one of +CMS ERROR in RP and CP. It needs no state. Answers 0 and that
+ * number, or 0 and 0 where none is printed; refuses with 2 for a column above 4 or a cause above
+ * 255. */
+struct dialchisel_answer dialchisel_error(uint32_t column, uint32_t cause);
+
+/* The network did not answer what was asked of a service. Needs the service asked; makes it idle,
+ * and backs off, that service alone. Answers 20 or 23, or refuses with 1 to 4. */
 struct dialchisel_answer dialchisel_silent(uint32_t *state, size_t state_count, uint32_t time, uint32_t service);
 
 /* PDP, which was up, was dropped. Makes it idle. Answers 0, or refuses with 1, 3 or 4. */
