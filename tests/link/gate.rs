@@ -37,7 +37,16 @@ pub mod c {
         pub fn dialchisel_request(state: *mut u32, state_count: usize, time: u32, kind: u32) -> Answer;
         pub fn dialchisel_why(state: *const u32, state_count: usize, time: u32, kind: u32, times: *mut u32, times_count: usize) -> Answer;
         pub fn dialchisel_granted(state: *mut u32, state_count: usize, time: u32, service: u32) -> Answer;
-        pub fn dialchisel_rejected(state: *mut u32, state_count: usize, time: u32, service: u32, cause: u32, second: u32) -> Answer;
+        pub fn dialchisel_rejected(
+            state: *mut u32,
+            state_count: usize,
+            time: u32,
+            service: u32,
+            cause: u32,
+            second: u32,
+            column: u32,
+        ) -> Answer;
+        pub fn dialchisel_error(column: u32, cause: u32) -> Answer;
         pub fn dialchisel_silent(state: *mut u32, state_count: usize, time: u32, service: u32) -> Answer;
         pub fn dialchisel_dropped(state: *mut u32, state_count: usize, time: u32) -> Answer;
         pub fn dialchisel_tick(state: *mut u32, state_count: usize, time: u32) -> Answer;
@@ -82,6 +91,30 @@ pub enum Service {
     Sms = 3,
 }
 
+/// The column of section 7.5 of CLP.03 that a cause stands in. Each belongs to one service.
+#[derive(Clone, Copy, Debug, PartialEq, Eq)]
+pub enum Column {
+    /// `Service::Gsm`.
+    Mm = 0,
+    /// `Service::Gprs`.
+    Gmm = 1,
+    /// `Service::Pdp`.
+    Sm = 2,
+    /// `Service::Sms`, as is the next.
+    Rp = 3,
+    Cp = 4,
+}
+
+impl Column {
+    /// The number for the AT side that section 7.5 has beside a cause of this column, if it has
+    /// one: of +CME ERROR for MM, GMM and SM, of +CMS ERROR for RP and CP.
+    pub fn error(self, cause: u8) -> Option<u32> {
+        // SAFETY: no pointer is lent. A column and a byte are in range, so the first number is 0.
+        let answer = unsafe { c::dialchisel_error(self as u32, u32::from(cause)) };
+        (answer.second != 0).then_some(answer.second)
+    }
+}
+
 /// What a call gave back.
 #[derive(Clone, Copy, Debug, PartialEq, Eq)]
 pub enum Verdict {
@@ -102,7 +135,7 @@ pub enum Verdict {
 pub enum Refusal {
     /// The state is damaged, or a room has the wrong size.
     Buffer,
-    /// An argument is out of range, or a file is bad.
+    /// An argument is out of range, a column is not the service's, or a file is bad.
     Range,
     /// The time is below the last one or above 4,000,000,000.
     Time,
@@ -197,6 +230,15 @@ pub enum Advice {
     Reattach,
     OtherNetwork,
     As3gpp,
+    /// Not again on the same PLMN unless prompted from outside, as in the two below.
+    NotSamePlmn,
+    /// In the same location area.
+    NotSameArea,
+    NotSameCell,
+    /// PDP may be activated again at once.
+    MayReactivate,
+    /// PDP may be established again at once.
+    MayReestablish,
 }
 
 impl From<c::Answer> for Verdict {
@@ -221,6 +263,11 @@ impl From<c::Answer> for Verdict {
             21 => Verdict::Advice(Advice::Reattach),
             22 => Verdict::Advice(Advice::OtherNetwork),
             23 => Verdict::Advice(Advice::As3gpp),
+            24 => Verdict::Advice(Advice::NotSamePlmn),
+            25 => Verdict::Advice(Advice::NotSameArea),
+            26 => Verdict::Advice(Advice::NotSameCell),
+            27 => Verdict::Advice(Advice::MayReactivate),
+            28 => Verdict::Advice(Advice::MayReestablish),
             _ => Verdict::Unknown { number, second },
         }
     }
@@ -327,9 +374,9 @@ impl Gate {
         unsafe { c::dialchisel_granted(self.state.as_mut_ptr(), STATE, time, service as u32) }.into()
     }
 
-    pub fn rejected(&mut self, time: u32, service: Service, cause: u8, second_network: bool) -> Verdict {
+    pub fn rejected(&mut self, time: u32, service: Service, cause: u8, second_network: bool, column: Column) -> Verdict {
         let (service, cause, second) = (service as u32, u32::from(cause), u32::from(second_network));
-        unsafe { c::dialchisel_rejected(self.state.as_mut_ptr(), STATE, time, service, cause, second) }.into()
+        unsafe { c::dialchisel_rejected(self.state.as_mut_ptr(), STATE, time, service, cause, second, column as u32) }.into()
     }
 
     pub fn silent(&mut self, time: u32, service: Service) -> Verdict {

@@ -1,5 +1,6 @@
-/* A C program on the archive: document 01's printed example, refusals, AT lines, why the gate says no and when to come back, the counter
- * file, a card that lacks its files. It ends in failure on any surprise. It is C99, and C++17 too. */
+/* A C program on the archive: document 01's printed example, refusals, AT lines, why the gate says
+ * no and when to come back, the counter file, a card that lacks its files, the columns of causes.
+ * It ends in failure on any surprise. It is C99, and C++17 too. */
 #include "dialchisel.h"
 
 #include <stdio.h>
@@ -46,7 +47,9 @@ static void example(void)
 {
     same("O", opened(count, 1010123456789u, DIALCHISEL_LEAK_FILE), DIALCHISEL_DONE, 0);
     same("Q 1000 2", dialchisel_request(state, count, 1000, DIALCHISEL_PDP_ACTIVATION), DIALCHISEL_DONE, 0);
-    same("J 1010 2 26 0", dialchisel_rejected(state, count, 1010, DIALCHISEL_PDP, 26, 0), DIALCHISEL_BACKED_OFF, 103);
+    same("J 1010 2 26 0 2",
+         dialchisel_rejected(state, count, 1010, DIALCHISEL_PDP, 26, 0, DIALCHISEL_COLUMN_SM),
+         DIALCHISEL_BACKED_OFF, 103);
     same("Q 1112 2", dialchisel_request(state, count, 1112, DIALCHISEL_PDP_ACTIVATION), DIALCHISEL_BLOCKED_BACKOFF, 1);
     same("Q 1113 2", dialchisel_request(state, count, 1113, DIALCHISEL_PDP_ACTIVATION), DIALCHISEL_DONE, 0);
     same("G 1114 2", dialchisel_granted(state, count, 1114, DIALCHISEL_PDP), DIALCHISEL_DONE, 0);
@@ -75,6 +78,14 @@ static void refusals(void)
     same("leak rate file too long", opened(count, 1, DIALCHISEL_LEAK_FILE + 1), DIALCHISEL_REFUSED_RANGE, 0);
     same("no such kind", dialchisel_request(state, count, 1114, 6), DIALCHISEL_REFUSED_RANGE, 0);
     same("no such service", dialchisel_silent(state, count, 1114, 4), DIALCHISEL_REFUSED_RANGE, 0);
+    same("no such column", dialchisel_rejected(state, count, 1114, DIALCHISEL_SMS, 8, 0, 5),
+         DIALCHISEL_REFUSED_RANGE, 0);
+    same("PDP's column",
+         dialchisel_rejected(state, count, 1114, DIALCHISEL_SMS, 8, 0, DIALCHISEL_COLUMN_SM),
+         DIALCHISEL_REFUSED_RANGE, 0);
+    same("nothing asked",
+         dialchisel_rejected(state, count, 1114, DIALCHISEL_SMS, 8, 0, DIALCHISEL_COLUMN_RP),
+         DIALCHISEL_REFUSED_STANDING, 0);
     same("time went back", dialchisel_tick(state, count, 1113), DIALCHISEL_REFUSED_TIME, 0);
     same("time too late", dialchisel_dropped(state, count, DIALCHISEL_LATEST + 1), DIALCHISEL_REFUSED_TIME, 0);
     same("no CR", dialchisel_command(state, count, (const uint8_t *)"AT+NFM=1", 8, room, sizeof room), DIALCHISEL_REFUSED_LINE, 0);
@@ -178,12 +189,57 @@ static void lacking(void)
     is("the card's limits", memcmp(state + DIALCHISEL_PLACE_N1, zeros, sizeof rtc10) == 0);
 }
 
+/* A service asked and rejected in one second, with a second network there. */
+static void rejected(const char *what, uint32_t time, uint32_t service, uint32_t column,
+                     uint32_t cause, uint32_t number, uint32_t wait)
+{
+    same(what, dialchisel_request(state, count, time, service), DIALCHISEL_DONE, 0);
+    same(what, dialchisel_rejected(state, count, time, service, cause, 1, column), number, wait);
+}
+
+/* An outcome names its column: the actions of its rows, a row that holds both registrations, and
+ * the numbers for the AT side. */
+static void columns(void)
+{
+    same("opened", opened_for(NULL, 0, NULL, 0, DIALCHISEL_PARAMETER_FILE), DIALCHISEL_DONE, 0);
+    rejected("MM 11", 5000, DIALCHISEL_GSM, DIALCHISEL_COLUMN_MM, 11, DIALCHISEL_NOT_SAME_PLMN, 0);
+    rejected("MM 13", 5000, DIALCHISEL_GSM, DIALCHISEL_COLUMN_MM, 13, DIALCHISEL_NOT_SAME_AREA, 0);
+    rejected("GMM 15", 5000, DIALCHISEL_GPRS, DIALCHISEL_COLUMN_GMM, 15,
+             DIALCHISEL_NOT_SAME_CELL, 0);
+    rejected("SM 28", 5000, DIALCHISEL_PDP, DIALCHISEL_COLUMN_SM, 28, DIALCHISEL_REATTACH, 0);
+    rejected("SM 34", 5000, DIALCHISEL_PDP, DIALCHISEL_COLUMN_SM, 34, DIALCHISEL_OTHER_NETWORK, 0);
+    rejected("SM 36", 5000, DIALCHISEL_PDP, DIALCHISEL_COLUMN_SM, 36, DIALCHISEL_MAY_REACTIVATE, 0);
+    rejected("SM 39", 5000, DIALCHISEL_PDP, DIALCHISEL_COLUMN_SM, 39,
+             DIALCHISEL_MAY_REESTABLISH, 0);
+    rejected("RP 17", 5000, DIALCHISEL_SMS, DIALCHISEL_COLUMN_RP, 17, DIALCHISEL_AS_3GPP, 0);
+    rejected("CP 17", 5000, DIALCHISEL_SMS, DIALCHISEL_COLUMN_CP, 17, DIALCHISEL_BACKED_OFF, 103);
+    is("nobody else backs off",
+       memcmp(state + DIALCHISEL_PLACE_ENDS, zeros, 3 * sizeof *state) == 0);
+
+    rejected("GMM 6", 5001, DIALCHISEL_GPRS, DIALCHISEL_COLUMN_GMM, 6, DIALCHISEL_BACKED_OFF, 103);
+    is("both have failed once", state[DIALCHISEL_PLACE_FAILURES + DIALCHISEL_GSM] == 1 &&
+                                    state[DIALCHISEL_PLACE_FAILURES + DIALCHISEL_GPRS] == 1);
+    same("GSM is held too", dialchisel_request(state, count, 5002, DIALCHISEL_GSM_REGISTRATION),
+         DIALCHISEL_BLOCKED_BACKOFF, 102);
+
+    same("CME beside MM 3", dialchisel_error(DIALCHISEL_COLUMN_MM, 3), DIALCHISEL_DONE, 103);
+    same("CME beside GMM 3", dialchisel_error(DIALCHISEL_COLUMN_GMM, 3), DIALCHISEL_DONE, 106);
+    same("CME beside SM 38", dialchisel_error(DIALCHISEL_COLUMN_SM, 38), DIALCHISEL_DONE, 615);
+    same("CMS beside RP 22", dialchisel_error(DIALCHISEL_COLUMN_RP, 22), DIALCHISEL_DONE, 27);
+    same("none beside CP 17", dialchisel_error(DIALCHISEL_COLUMN_CP, 17), DIALCHISEL_DONE, 0);
+    same("none, no row", dialchisel_error(DIALCHISEL_COLUMN_RP, 255), DIALCHISEL_DONE, 0);
+    same("error, no such column", dialchisel_error(5, 17), DIALCHISEL_REFUSED_RANGE, 0);
+    same("error, no such cause", dialchisel_error(DIALCHISEL_COLUMN_CP, 256),
+         DIALCHISEL_REFUSED_RANGE, 0);
+}
+
 int main(void)
 {
     example();
     refusals();
     bytes();
     lacking();
+    columns();
     printf("use.c: %d answers and places as document 01 has them, %d surprises\n", looked - surprises, surprises);
     return surprises != 0;
 }

@@ -1,8 +1,9 @@
-//! A Rust program on the safe wrapper: document 01's printed example, refusals, why the gate says no and when to come back, an AT line, the
-//! counter file, a state that is saved and brought back, a card that lacks its files. It ends in failure on any surprise.
+//! A Rust program on the safe wrapper: document 01's printed example, refusals, the columns of
+//! causes, why the gate says no and when to come back, an AT line, the counter file, a state that
+//! is saved and brought back, a card that lacks its files. It ends in failure on any surprise.
 mod gate;
 
-use gate::{Advice, Block, Gate, Refusal, Request, Rule, Service, Settings, Verdict, RTC10};
+use gate::{Advice, Block, Column, Gate, Refusal, Request, Rule, Service, Settings, Verdict, RTC10};
 use std::process::ExitCode;
 
 /// Notes each surprise and how many things were looked at.
@@ -25,7 +26,8 @@ impl Seen {
 fn example(seen: &mut Seen, gate: &mut Gate) {
     let done = Verdict::Done(0);
     seen.same("first request", gate.request(1000, Request::PdpActivation), done);
-    seen.same("rejected", gate.rejected(1010, Service::Pdp, 26, false), Verdict::Advice(Advice::BackedOff(103)));
+    let told = gate.rejected(1010, Service::Pdp, 26, false, Column::Sm);
+    seen.same("rejected", told, Verdict::Advice(Advice::BackedOff(103)));
     seen.same("a second too early", gate.request(1112, Request::PdpActivation), Verdict::Blocked(Block::BackOff(1)));
     seen.same("in time", gate.request(1113, Request::PdpActivation), done);
     seen.same("granted", gate.granted(1114, Service::Pdp), done);
@@ -66,6 +68,40 @@ fn others(seen: &mut Seen, gate: &mut Gate) {
     why(seen, gate);
     seen.same("third SMS of two", gate.request(5599, Request::Sms), Verdict::Blocked(Block::S1(1)));
     seen.same("in the next hour", gate.request(5600, Request::Sms), done);
+}
+
+/// An outcome names its column: each action that section 7.5 has, a row that holds both
+/// registrations, a column of another service, and the numbers for the AT side.
+fn columns(seen: &mut Seen, settings: &Settings) {
+    let Ok(mut gate) = Gate::open(settings) else {
+        return seen.same("opened for columns", false, true);
+    };
+    let advised = [
+        (Request::GsmRegistration, Service::Gsm, Column::Mm, 11, Advice::NotSamePlmn),
+        (Request::GsmRegistration, Service::Gsm, Column::Mm, 12, Advice::NotSameArea),
+        (Request::GprsRegistration, Service::Gprs, Column::Gmm, 15, Advice::NotSameCell),
+        (Request::PdpActivation, Service::Pdp, Column::Sm, 28, Advice::Reattach),
+        (Request::PdpActivation, Service::Pdp, Column::Sm, 34, Advice::OtherNetwork),
+        (Request::PdpActivation, Service::Pdp, Column::Sm, 36, Advice::MayReactivate),
+        (Request::PdpActivation, Service::Pdp, Column::Sm, 39, Advice::MayReestablish),
+        (Request::Sms, Service::Sms, Column::Rp, 17, Advice::As3gpp),
+        (Request::Sms, Service::Sms, Column::Cp, 17, Advice::BackedOff(103)),
+    ];
+    for (request, service, column, cause, advice) in advised {
+        seen.same("asked", gate.request(1000, request), Verdict::Done(0));
+        let told = gate.rejected(1000, service, cause, true, column);
+        seen.same("its row", told, Verdict::Advice(advice));
+    }
+    seen.same("GPRS asked", gate.request(1001, Request::GprsRegistration), Verdict::Done(0));
+    let wrong = gate.rejected(1001, Service::Gprs, 6, false, Column::Mm);
+    seen.same("GSM's column", wrong, Verdict::Refused(Refusal::Range));
+    let told = gate.rejected(1001, Service::Gprs, 6, false, Column::Gmm);
+    seen.same("GMM 6", told, Verdict::Advice(Advice::BackedOff(103)));
+    let held = gate.request(1002, Request::GsmRegistration);
+    seen.same("GSM is held too", held, Verdict::Blocked(Block::BackOff(102)));
+
+    let errors = [Column::Mm, Column::Gmm, Column::Sm, Column::Rp, Column::Cp].map(|column| column.error(22));
+    seen.same("error numbers of 22", errors, [Some(42), Some(42), None, Some(27), None]);
 }
 
 /// A sender that comes back when it was told to, and a second before: S1 = 2, with an SMS at 1000 and one at 1100.
@@ -163,6 +199,7 @@ fn main() -> ExitCode {
             example(&mut seen, &mut gate);
             refusals(&mut seen, &mut gate, &settings);
             others(&mut seen, &mut gate);
+            columns(&mut seen, &settings);
             come_back(&mut seen, &settings);
             bytes(&mut seen, &mut gate);
             lacking(&mut seen, &settings);
