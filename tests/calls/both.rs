@@ -1,4 +1,5 @@
 //! One call made twice, by the linked library and by the model, and all that is compared afterwards.
+use crate::columns::other_stands;
 use crate::gate::c;
 use crate::model::{self, *};
 use crate::random::Random;
@@ -80,19 +81,20 @@ impl Opening {
     }
 }
 
-/// A call with its arguments, all but the state.
+/// A call with its arguments, all but the state. `Error` is given none, and must leave it alone.
 #[derive(Clone, Debug)]
 pub enum Call {
     Open(Opening),
     Request { time: u32, kind: u32 },
     Granted { time: u32, service: u32 },
-    Rejected { time: u32, service: u32, cause: u32, second: u32 },
+    Rejected { time: u32, service: u32, cause: u32, second: u32, column: u32 },
     Silent { time: u32, service: u32 },
     Dropped { time: u32 },
     Tick { time: u32 },
     Command { line: Vec<u8>, room: usize },
     Counters { room: usize },
     Why { time: u32, kind: u32, room: usize },
+    Error { column: u32, cause: u32 },
 }
 
 impl Call {
@@ -108,6 +110,7 @@ impl Call {
             Call::Command { .. } => "command",
             Call::Counters { .. } => "counters",
             Call::Why { .. } => "why",
+            Call::Error { .. } => "error",
         }
     }
 }
@@ -218,13 +221,14 @@ fn by_library(state: &mut Lent<u32>, call: &Call, inputs: &mut Inputs, rooms: &m
             ),
             Call::Request { time, kind } => c::dialchisel_request(s, n, time, kind),
             Call::Granted { time, service } => c::dialchisel_granted(s, n, time, service),
-            Call::Rejected { time, service, cause, second } => c::dialchisel_rejected(s, n, time, service, cause, second),
+            Call::Rejected { time, service, cause, second, column } => c::dialchisel_rejected(s, n, time, service, cause, second, column),
             Call::Silent { time, service } => c::dialchisel_silent(s, n, time, service),
             Call::Dropped { time } => c::dialchisel_dropped(s, n, time),
             Call::Tick { time } => c::dialchisel_tick(s, n, time),
             Call::Command { .. } => c::dialchisel_command(s, n, first.0, first.1, out, out_count),
             Call::Counters { .. } => c::dialchisel_counters(s, n, out, out_count),
             Call::Why { time, kind, .. } => c::dialchisel_why(s, n, time, kind, times, times_count),
+            Call::Error { column, cause } => c::dialchisel_error(column, cause),
         }
     };
     (answer.number, answer.second)
@@ -240,13 +244,14 @@ pub fn by_model(s: &mut [u32], call: &Call, room: &mut [u8], times: &mut [u32]) 
         }
         Call::Request { time, kind } => model::request(s, *time, *kind),
         Call::Granted { time, service } => model::granted(s, *time, *service),
-        Call::Rejected { time, service, cause, second } => model::rejected(s, *time, *service, *cause, *second),
+        Call::Rejected { time, service, cause, second, column } => model::rejected(s, *time, *service, *cause, *second, *column),
         Call::Silent { time, service } => model::silent(s, *time, *service),
         Call::Dropped { time } => model::dropped(s, *time),
         Call::Tick { time } => model::tick(s, *time),
         Call::Command { line, .. } => model::command(s, line, room),
         Call::Counters { .. } => model::counters(s, room),
         Call::Why { time, kind, .. } => model::why(s, *time, *kind, times),
+        Call::Error { column, cause } => model::error(*column, *cause),
     }
 }
 
@@ -267,6 +272,12 @@ pub struct Bench {
     /// Openings that were taken, by the files that the card lacked, and blocks by limits of the module's own file.
     pub lacking: BTreeMap<&'static str, u64>,
     pub own_blocks: BTreeMap<u32, u64>,
+    /// Rejections that were taken, by their column and answer; those of a row for both
+    /// registrations, by how the other one stood; and what `error` told, which is counted here
+    /// alone.
+    pub actions: BTreeMap<String, u64>,
+    pub both_rows: BTreeMap<&'static str, u64>,
+    pub errors: BTreeMap<&'static str, u64>,
 }
 
 impl Bench {
@@ -285,6 +296,7 @@ impl Bench {
         let mut inputs = Inputs::of(call, &mut self.random);
         let (numbers, files) = (inputs.numbers.clone(), inputs.bytes.clone());
         let full = full_lists(pair.model.part());
+        let other = other_stands(pair.model.part(), call);
 
         let library = by_library(&mut pair.library, call, &mut inputs, &mut library_rooms, odd);
         let model = by_model(pair.model.part_mut(), call, model_rooms.bytes.part_mut(), model_rooms.times.part_mut());
@@ -303,6 +315,10 @@ impl Bench {
         if let Some(difference) = differences.into_iter().chain(in_files).flatten().next() {
             self.fail(call, &difference);
         }
+        if let Call::Error { .. } = call {
+            self.count_error(model);
+            return model;
+        }
         if !(1..=5).contains(&model.0) && !good(pair.model.part()) {
             self.fail(call, "the state after it is bad");
         }
@@ -315,6 +331,7 @@ impl Bench {
             *self.lacking.entry(opening.lacking()).or_default() += 1;
         }
         self.count_long(call, model, full, pair.model.part());
+        self.count_rejection(call, model, other);
         if let (Call::Request { .. }, 11 | 13..=18) = (call, model.0) {
             self.count_seconds(call, model);
         }

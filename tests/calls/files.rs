@@ -158,7 +158,7 @@ impl Bench {
     /// Sequences in which a limit, a leak rate and a counter of the files that rule show, for each limit and each set of files that the
     /// card lacks; at last RTC10's figures.
     pub fn ruling_files(&mut self) {
-        let rejected = |cause| Call::Rejected { time: 0, service: 2, cause, second: 0 };
+        let rejected = |cause| Call::Rejected { time: 0, service: 2, cause, second: 0, column: 2 };
         let [ignored, permanent, temporary] =
             [Call::Silent { time: 0, service: 2 }, rejected(33), rejected(26)].map(|outcome| (2, Some(outcome)));
         let reset = (5, None);

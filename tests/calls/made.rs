@@ -182,20 +182,28 @@ impl Bench {
             4 => self.any_call(time),
             5 => Call::Request { time, kind: self.random.number(6) },
             6 => Call::Granted { time, service },
-            7 => Call::Rejected { time, service, cause: self.random.number(256), second: self.random.number(2) },
+            7 => self.rejection(time, service),
             8 => Call::Silent { time, service },
             9 => Call::Why { time, kind: self.random.number(6), room: 8 },
+            10 => Call::Error { column: self.random.number(5), cause: self.random.number(256) },
             _ if asked && self.random.chance(grants) => Call::Granted { time, service },
             _ if asked && self.random.chance(35) => Call::Silent { time, service },
-            _ if asked => {
-                let any = self.random.number(256);
-                let cause = self.random.pick(&[any, 8, 26, 27, 28, 29, 30, 31, 32, 33, 34, 34, 35]);
-                Call::Rejected { time, service, cause, second: self.random.number(2) }
-            }
+            _ if asked => self.rejection(time, service),
             _ if service == 2 && s[STANDINGS + 2] == UP => Call::Request { time, kind: 4 },
             _ if self.random.chance(15) => Call::Request { time, kind: 5 },
             _ => Call::Request { time, kind: service },
         }
+    }
+
+    /// A rejection of one of the four services, mostly in a column of its own and by a cause that
+    /// has a row there.
+    fn rejection(&mut self, time: u32, service: u32) -> Call {
+        let any = self.random.pick(&[0, 1, 2, 3, 4, 5, u32::MAX]);
+        let column = if self.random.chance(97) { self.random.pick(columns(service)) } else { any };
+        let listed: Vec<u32> = (0..256).filter(|&cause| row(column, cause).is_some()).collect();
+        let any = self.random.number(256);
+        let cause = if listed.is_empty() || self.random.chance(15) { any } else { self.random.pick(&listed) };
+        Call::Rejected { time, service, cause, second: self.random.number(2), column }
     }
 
     /// A call of any kind with arguments in and out of range.
@@ -204,15 +212,17 @@ impl Bench {
         let time = if self.random.chance(90) { time } else { edge };
         let (service, other) = (self.random.number(5), self.random.pick(&EDGES));
         let service = if self.random.chance(80) { service } else { other };
-        match self.random.below(9) {
+        let column = if self.random.chance(50) { service } else { self.random.pick(&EDGES) };
+        match self.random.below(10) {
             0 => Call::Request { time, kind: service },
             1 => Call::Granted { time, service },
-            2 => Call::Rejected { time, service, cause: self.random.pick(&EDGES), second: self.random.number(3) },
+            2 => Call::Rejected { time, service, cause: self.random.pick(&EDGES), second: self.random.number(3), column },
             3 => Call::Silent { time, service },
             4 => Call::Dropped { time },
             5 => Call::Tick { time },
             6 => Call::Command { line: self.line(), room: self.random.below(41) as usize },
             7 => Call::Counters { room: self.random.pick(&[31, 32, 32, 33]) },
+            8 => Call::Error { column, cause: self.random.pick(&EDGES) },
             _ => Call::Why { time, kind: service, room: self.random.pick(&[0, 7, 8, 8, 8, 9]) },
         }
     }

@@ -1,6 +1,8 @@
-//! A model of the ten calls on the buffer of 1,330 numbers, written from document 01 and from the customer's requests, §1 for `why`, §2 for
-//! the files of an opening, §3 for the wait and §4 for the seconds of a limit, and from nothing else. It is plain and slow on purpose: each
-//! part names the heading that it follows, to be read beside it. It never panics, whatever it is given.
+//! A model of the eleven calls, ten of them on the buffer of 1,330 numbers, written from document
+//! 01 and from the customer's requests, §1 for `why`, §2 for the files of an opening, §3 for the
+//! wait, §4 for the seconds of a limit and §6, with section 7.5 of 000, for causes and `error`, and
+//! from nothing else. It is plain and slow on purpose: each part names the heading that it follows,
+//! to be read beside it. It never panics, whatever it is given.
 #![forbid(unsafe_code)]
 
 /// The two numbers given back.
@@ -398,26 +400,183 @@ pub fn granted(s: &mut [u32], time: u32, service: u32) -> Answer {
     (0, 0)
 }
 
-pub fn rejected(s: &mut [u32], time: u32, service: u32, cause: u32, second: u32) -> Answer {
-    let in_range = service <= 3 && cause <= 255 && second <= 1;
+/// §6, "The other cause columns": what the last cell of a row says.
+#[derive(Clone, Copy, Debug, PartialEq)]
+pub enum Says {
+    /// "a GSM Attach 'Back-off'", in one row without "Attach".
+    GsmBackOff,
+    /// "a GPRS Attach 'Back-off'".
+    GprsBackOff,
+    /// "a GSM and GPRS Attach 'Back-off'".
+    GsmAndGprsBackOff,
+    /// "the 'Back-off'", of no service by name: of the one that was rejected.
+    TheBackOff,
+    /// "a Session Management Back-off".
+    SmBackOff,
+    /// "an SMS Back-off".
+    SmsBackOff,
+    /// "a GPRS re-attach".
+    Reattach,
+    /// "If a second mobile network is available, ... connect via the alternate", else back off.
+    SecondNetwork,
+    /// "As per 3GPP specifications".
+    As3gpp,
+    /// "should not retry ... on the same PLMN unless prompted externally".
+    NotSamePlmn,
+    /// "on the same LA".
+    NotSameLa,
+    /// "on the same cell".
+    NotSameCell,
+    /// "Immediate reactivation of PDP Context ... is OK".
+    ReactivationOk,
+    /// "may re-establish the PDP Context immediately".
+    MayReestablish,
+}
+
+use Says::*;
+
+/// An empty cell: no cause, and no number of an error.
+const __: u32 = u32::MAX;
+
+/// A row of section 7.5: its causes by column, MM, GMM, SM, RP and CP, its CME and its CMS number,
+/// and what it says.
+type Row = ([u32; 5], u32, u32, Says);
+
+/// Section 7.5 as it is printed, a line for each row, but for the row "All other MM codes", "All
+/// other GMM codes": it says what goes for every cause without a row, in all columns.
+#[rustfmt::skip]
+pub const PAGE: [Row; 64] = [
+    // MM  GMM   SM   RP   CP    CME  CMS
+    ([  2,  __,  __,  __,  __],  __,  __, GsmBackOff),        // page 39
+    ([ __,   2,  __,  __,  __],  __,  __, GsmAndGprsBackOff),
+    ([  3,  __,  __,  __,  __], 103,  __, GsmBackOff),
+    ([ __,   3,  __,  __,  __], 106,  __, GsmAndGprsBackOff),
+    ([  4,  __,  __,  __,  __],  __,  __, As3gpp),
+    ([  5,  __,  __,  __,  __],  __,  __, TheBackOff),
+    ([  6,  __,  __,  __,  __], 106,  __, GsmBackOff),        // page 40
+    ([ __,   6,  __,  __,  __], 106,  __, GsmAndGprsBackOff),
+    ([ __,   7,  __,  __,  __], 107,  __, GprsBackOff),
+    ([  8,   8,  __,  __,  __],  __,  __, GsmAndGprsBackOff),
+    ([  9,   9,  __,  __,  __],  __,  __, GsmAndGprsBackOff),
+    ([ __,  10,  __,  __,  __],  __,  __, As3gpp),
+    ([ 11,  11,  __,  __,  __], 111,  __, NotSamePlmn),
+    ([ 12,  12,  __,  __,  __], 112,  __, NotSameLa),
+    ([ 13,  13,  __,  __,  __], 113,  __, NotSameLa),         // page 41
+    ([ __,  14,  __,  __,  __],  __,  __, NotSamePlmn),
+    ([ 15,  15,  __,  __,  __],  __,  __, NotSameCell),
+    ([ __,  16,  __,  __,  __],  __,  __, TheBackOff),
+    ([ 17,  17,  __,  __,  __], 615,  __, TheBackOff),
+    ([ 20,  20,  __,  __,  __],  __,  __, As3gpp),
+    ([ 21,  21,  __,  __,  __],  __,  __, As3gpp),
+    ([ 22,  22,  __,  __,  __],  42,  __, TheBackOff),
+    ([ 23,  __,  __,  __,  __],  __,  __, As3gpp),            // page 42
+    ([ 32,  __,  __,  __,  __], 132,  __, As3gpp),
+    ([ 33,  __,  __,  __,  __], 133,  __, As3gpp),
+    ([ 34,  __,  __,  __,  __], 134,  __, TheBackOff),
+    ([ 38,  __,  __,  __,  __],  __,  __, As3gpp),
+    ([ 40,  __,  __,  __,  __],  __,  __, As3gpp),
+    ([ __,  __,   8,  __,  __],  __,  __, SmBackOff),
+    ([ __,  __,  26,  __,  __],  __,  __, SmBackOff),         // page 43
+    ([ __,  __,  27,  __,  __], 134,  __, SmBackOff),
+    ([ __,  __,  28,  __,  __],  __,  __, Reattach),
+    ([ __,  __,  29,  __,  __], 149,  __, SmBackOff),
+    ([ __,  __,  30,  __,  __],  __,  __, SmBackOff),
+    ([ __,  __,  31,  __,  __],  __,  __, SmBackOff),
+    ([ __,  __,  32,  __,  __], 132,  __, SmBackOff),         // page 44
+    ([ __,  __,  33,  __,  __], 133,  __, SmBackOff),
+    ([ __,  __,  34,  __,  __], 134,  __, SecondNetwork),
+    ([ __,  __,  35,  __,  __],  __,  __, SmBackOff),
+    ([ __,  __,  36,  __,  __],  __,  __, ReactivationOk),
+    ([ __,  __,  37,  __,  __],  __,  __, As3gpp),
+    ([ __,  __,  38,  __,  __], 615,  __, SmBackOff),
+    ([ __,  __,  39,  __,  __],  __,  __, MayReestablish),    // page 45
+    ([ __,  __,  40,  __,  __],  __,  __, As3gpp),
+    ([ __,  __,  43,  __,  __],  __,  __, As3gpp),
+    ([ __,  __,  56,  __,  __],  __,  __, As3gpp),
+    ([ __,  __, 112,  __,  __],  __,  __, As3gpp),
+    ([ __,  __,  __,   8,  __],  __,   8, SmsBackOff),
+    ([ __,  __,  __,  10,  __],  __,  10, SmsBackOff),
+    ([ __,  __,  __,  21,  __],  __,  21, SmsBackOff),        // page 46
+    ([ __,  __,  __,  22,  __],  __,  27, SmsBackOff),
+    ([ __,  __,  __,  28,  __],  __,  28, SmsBackOff),
+    ([ __,  __,  __,  29,  __],  __,  29, SmsBackOff),
+    ([ __,  __,  __,  30,  __],  __,  30, SmsBackOff),
+    ([ __,  __,  __,  38,  __],  __,  38, SmsBackOff),
+    ([ __,  __,  __,  41,  __],  __,  41, SmsBackOff),        // page 47
+    ([ __,  __,  __,  42,  __],  __,  42, SmsBackOff),
+    ([ __,  __,  __,  47,  __],  __,  47, SmsBackOff),
+    ([ __,  __,  __,  50,  __],  __,  50, SmsBackOff),
+    ([ __,  __,  __,  69,  __],  __,  69, SmsBackOff),
+    ([ __,  __,  __,  81,  __],  __,  81, SmsBackOff),
+    ([ __,  __,  __,  __,  17],  __,  __, SmsBackOff),
+    ([ __,  __,  __,  __,  21],  __,  __, SmsBackOff),        // page 48
+    ([ __,  __,  __,  __,  __], 148,  __, As3gpp),            // stands beside no cause
+];
+
+/// The row of a cause of 0 to 255, if its column has one.
+pub fn row(column: u32, cause: u32) -> Option<&'static Row> {
+    PAGE.iter().find(|(causes, ..)| causes.get(column as usize) == Some(&cause))
+}
+
+/// The columns of a service: "Services 0 (MM causes), 1 (GMM) and 3 (RP, CP)", and SM of service 2.
+pub fn columns(service: u32) -> &'static [u32] {
+    match service {
+        0 => &[0],
+        1 => &[1],
+        2 => &[2],
+        3 => &[3, 4],
+        _ => &[],
+    }
+}
+
+pub fn rejected(s: &mut [u32], time: u32, service: u32, cause: u32, second: u32, column: u32) -> Answer {
+    let in_range = service <= 3 && cause <= 255 && second <= 1 && columns(service).contains(&column);
     if let Err(refused) = accept(s, in_range, time, asked(service)) {
         return refused;
     }
     s[STANDINGS + service as usize] = IDLE;
-    if service != 2 {
-        return back_off(s, time, service);
+    if service == 2 {
+        s[MOOD] = match cause {
+            8 | 27 | 28 | 29 | 32 | 33 => PERMANENT,
+            _ => TEMPORARY,
+        };
     }
-    s[MOOD] = match cause {
-        8 | 27 | 28 | 29 | 32 | 33 => PERMANENT,
-        _ => TEMPORARY,
+    let backs_off: &[u32] = match row(column, cause).map_or(As3gpp, |row| row.3) {
+        GsmBackOff => &[0],
+        GprsBackOff => &[1],
+        GsmAndGprsBackOff => &[0, 1],
+        TheBackOff => &[service],
+        SmBackOff => &[2],
+        SmsBackOff => &[3],
+        Reattach => return (21, 0),
+        SecondNetwork if second == 1 => return (22, 0),
+        SecondNetwork => &[service],
+        As3gpp => return (23, 0),
+        NotSamePlmn => return (24, 0),
+        NotSameLa => return (25, 0),
+        NotSameCell => return (26, 0),
+        ReactivationOk => return (27, 0),
+        MayReestablish => return (28, 0),
     };
-    match cause {
-        8 | 26 | 27 | 29 | 30 | 31 | 32 | 33 | 35 => back_off(s, time, service),
-        28 => (21, 0),
-        34 if second == 1 => (22, 0),
-        34 => back_off(s, time, service),
-        _ => (23, 0),
+    // Each by its own failures; the answer is that of the service that was rejected.
+    let mut answer = (0, 0);
+    for &each in backs_off {
+        let own = back_off(s, time, each);
+        if each == service {
+            answer = own;
+        }
     }
+    answer
+}
+
+/// "For the AT side the CME and CMS numbers that it gives beside them": the CME number of an MM,
+/// GMM or SM cause, the CMS number of an RP or CP cause, or 0 where none stands there.
+pub fn error(column: u32, cause: u32) -> Answer {
+    if column > 4 || cause > 255 {
+        return (2, 0);
+    }
+    let number = row(column, cause).map_or(__, |&(_, cme, cms, _)| if column <= 2 { cme } else { cms });
+    (0, if number == __ { 0 } else { number })
 }
 
 pub fn silent(s: &mut [u32], time: u32, service: u32) -> Answer {
