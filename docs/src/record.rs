@@ -1,6 +1,8 @@
-//! The trace program of document 01, answered from the full record: the time of every permit since the last accepted opening stays in memory,
-//! none goes at 255, and each limit counts over these. Written from document 01, for the wait from request §3 and for a limit's seconds from
-//! request §4, and from nothing else, to be read beside it, section by section.
+//! The trace program of document 01, answered from the full record: the time of every permit since
+//! the last accepted opening stays in memory, none goes at 255, and each limit counts over these.
+//! Written from document 01, for the wait from request §3, for a limit's seconds from request §4
+//! and for the causes from request §6 with section 7.5 of 000, and from nothing else, to be read
+//! beside it, section by section.
 //! It goes from standard input to standard output: `rustc -O --edition 2021 docs/src/record.rs -o record && ./record < trace`.
 use std::io::{self, BufRead, Read, Write};
 
@@ -78,6 +80,51 @@ fn drawn(imsi: u64, n: u64) -> u64 {
     x ^= x >> 7;
     x ^= x << 17;
     x
+}
+
+// The columns of section 7.5, by the numbers that a `J` line gives them.
+const MM: u64 = 0;
+const GMM: u64 = 1;
+const SM: u64 = 2;
+const RP: u64 = 3;
+const CP: u64 = 4;
+
+/// What section 7.5 proposes.
+enum Action {
+    /// The service that was rejected backs off.
+    BackOff,
+    /// "a GSM and GPRS Attach 'Back-off'": both registrations do, whichever was rejected.
+    BothBackOff,
+    Reattach,
+    /// Another network, if there is a second one, else a back-off.
+    OtherNetwork,
+    As3gpp,
+    NotThisPlmn,
+    NotThisArea,
+    NotThisCell,
+    Reactivate,
+    Reestablish,
+}
+
+/// Section 7.5, by its actions. A cause that no row of its column has is as 3GPP says.
+fn proposed(column: u64, cause: u64) -> Action {
+    match (column, cause) {
+        (MM, 2 | 3 | 5 | 6 | 17 | 22 | 34) => Action::BackOff,
+        (GMM, 7 | 16 | 17 | 22) => Action::BackOff,
+        (MM, 8 | 9) | (GMM, 2 | 3 | 6 | 8 | 9) => Action::BothBackOff,
+        (MM, 11) | (GMM, 11 | 14) => Action::NotThisPlmn,
+        (MM | GMM, 12 | 13) => Action::NotThisArea,
+        (MM | GMM, 15) => Action::NotThisCell,
+        (SM, 8 | 26 | 27 | 29 | 30 | 31 | 32 | 33 | 35 | 38) => Action::BackOff,
+        (SM, 28) => Action::Reattach,
+        (SM, 34) => Action::OtherNetwork,
+        (SM, 36) => Action::Reactivate,
+        (SM, 39) => Action::Reestablish,
+        (RP, 8 | 10 | 21 | 22 | 28 | 29 | 30 | 38) => Action::BackOff,
+        (RP, 41 | 42 | 47 | 50 | 69 | 81) => Action::BackOff,
+        (CP, 17 | 21) => Action::BackOff,
+        _ => Action::As3gpp,
+    }
 }
 
 impl Record {
@@ -188,22 +235,32 @@ impl Record {
         Ok((0, 0))
     }
 
-    fn rejected(&mut self, t: u64, service: u64, cause: u64, second: u64) -> Result<Answer, Refusal> {
-        self.accept(t, service <= 3 && cause <= 255 && second <= 1, self.asked(service))?;
+    fn rejected(&mut self, t: u64, service: u64, cause: u64, second: u64, column: u64) -> Result<Answer, Refusal> {
+        let belongs = matches!((service, column), (0, MM) | (1, GMM) | (2, SM) | (3, RP | CP));
+        self.accept(t, belongs && cause <= 255 && second <= 1, self.asked(service))?;
         self.standing[service as usize] = Standing::Idle;
-        if service != 2 {
-            return Ok(self.back_off(t, service));
+        if service == 2 {
+            self.mood = match cause {
+                8 | 27 | 28 | 29 | 32 | 33 => Mood::Permanent,
+                _ => Mood::Temporary,
+            };
         }
-        self.mood = match cause {
-            8 | 27 | 28 | 29 | 32 | 33 => Mood::Permanent,
-            _ => Mood::Temporary,
-        };
-        Ok(match cause {
-            8 | 26 | 27 | 29 | 30 | 31 | 32 | 33 | 35 => self.back_off(t, service),
-            28 => (21, 0),
-            34 if second == 1 => (22, 0),
-            34 => self.back_off(t, service),
-            _ => (23, 0),
+        Ok(match proposed(column, cause) {
+            Action::BackOff => self.back_off(t, service),
+            Action::BothBackOff => {
+                // Each by its own failures; the answer has the wait of the one that was rejected.
+                self.back_off(t, 1 - service);
+                self.back_off(t, service)
+            }
+            Action::Reattach => (21, 0),
+            Action::OtherNetwork if second == 1 => (22, 0),
+            Action::OtherNetwork => self.back_off(t, service),
+            Action::As3gpp => (23, 0),
+            Action::NotThisPlmn => (24, 0),
+            Action::NotThisArea => (25, 0),
+            Action::NotThisCell => (26, 0),
+            Action::Reactivate => (27, 0),
+            Action::Reestablish => (28, 0),
         })
     }
 
@@ -367,8 +424,8 @@ fn answer(record: &mut Option<Record>, line: &[u8]) -> Option<Result<Answer, Ref
             good.and_then(|record| record.silent(t, service))
         }
         b'J' => {
-            let [t, service, cause, second] = decimals(rest, b' ', U32)?;
-            good.and_then(|record| record.rejected(t, service, cause, second))
+            let [t, service, cause, second, column] = decimals(rest, b' ', U32)?;
+            good.and_then(|record| record.rejected(t, service, cause, second, column))
         }
         b'D' => {
             let [t] = decimals(rest, b' ', U32)?;
