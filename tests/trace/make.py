@@ -1,15 +1,24 @@
 #!/usr/bin/env python3
 """make.py SEED COUNT: COUNT made traces in one stream, for the trace program of document 01. Some lines come before any `O`; then each trace
-begins with one, mostly taken. One trace in a hundred fills a list, and one in sixty comes back to a limit at the edges of its seconds. The
-generator keeps an idea of where a trace stands, so that most lines pass the checks and many times fall on an edge."""
+begins with one, mostly taken. One trace in a hundred fills a list, one in sixty comes back to a
+limit at the edges of its seconds, and one in twenty is of the two registrations, which some causes
+hold together. The generator keeps an idea of where a trace stands, so that most lines pass the
+checks and many times fall on an edge."""
 import random
 import sys
 
 HOUR = 3_600
 LATEST = 4_000_000_000
 U32 = 2**32 - 1
-BACKING = {8, 26, 27, 29, 30, 31, 32, 33, 34, 35}
 PERMANENT = {8, 27, 28, 29, 32, 33}
+COLUMNS = ((0,), (1,), (2,), (3, 4))  # by service: MM 0, GMM 1, SM 2, RP 3, CP 4
+# by column: the causes on which its service backs off, of these the ones on which both registrations
+# do, and the others that have a row
+BACKING = ({2, 3, 5, 6, 8, 9, 17, 22, 34}, {2, 3, 6, 7, 8, 9, 16, 17, 22}, {8, 26, 27, 29, 30, 31, 32, 33, 34, 35, 38},
+           {8, 10, 21, 22, 28, 29, 30, 38, 41, 42, 47, 50, 69, 81}, {17, 21})
+BOTH = ({8, 9}, {2, 3, 6, 8, 9}, set(), set(), set())
+OTHERS = ({4, 11, 12, 13, 15, 20, 21, 23, 32, 33, 38, 40}, {10, 11, 12, 13, 14, 15, 20, 21},
+          {28, 36, 37, 39, 40, 43, 56, 112}, set(), set())
 LISTS = ((0,), (0,), (1, 2), (3,), (2,), (4,))  # by request: attach 0, activation 1, PDP 2, SMS 3, reset 4
 
 
@@ -58,8 +67,10 @@ class Idea:
             self.standing[request] = 1
         return True
 
-    def outcome(self, letter, t, service, cause=0, second=0):
+    def outcome(self, letter, t, service, cause=0, second=0, column=None):
         if service > 3 or cause > 255 or second > 1 or not self.t <= t <= LATEST or self.standing[service] != 1:
+            return
+        if letter == "J" and column not in COLUMNS[service]:
             return
         self.t, self.standing[service] = t, 0
         if letter == "G":
@@ -69,12 +80,14 @@ class Idea:
             return
         if service == 2:
             self.mood = 1 if letter == "S" else 2 if cause in PERMANENT else 3
-            if letter == "J" and (cause not in BACKING or cause == 34 and second == 1):
-                return
+        if letter == "J" and (cause not in BACKING[column] or (column, cause, second) == (2, 34, 1)):
+            return
+        both = letter == "J" and cause in BOTH[column]
         if self.nfm:
-            n = self.failures[service] = min(255, self.failures[service] + 1)
-            b = self.intervals[min(n, len(self.intervals)) - 1]
-            self.ends[service] = t + b + drawn(self.imsi, n) % b
+            for each in (0, 1) if both else (service,):
+                n = self.failures[each] = min(255, self.failures[each] + 1)
+                b = self.intervals[min(n, len(self.intervals)) - 1]
+                self.ends[each] = t + b + drawn(self.imsi, n) % b
 
     def dropped(self, t):
         if self.t <= t <= LATEST and self.standing[2] == 2:
@@ -220,21 +233,40 @@ class Maker:
 
     # Calls: the letter, then the numbers; of an AT line, the bytes and what they set
 
-    def cause(self):
+    def column(self, service):
+        """A column of the service, seldom one of another or one that there is not."""
         r = self.r
-        return r.choice((r.choice((8, 26, 27, 28, 28, 29, 30, 31, 32, 33, 34, 34, 34, 35)), r.choice((8, 26, 27, 28, 28, 29, 32, 33, 34, 34)),
-                         r.randrange(40), r.randrange(256), r.randrange(256), r.choice((0, 36, 38, 63, 64, 65, 255, 256))))
+        if service < 4 and r.random() < 0.95:
+            return r.choice(COLUMNS[service])
+        return r.choice((0, 1, 2, 3, 4, 4, 5, 6, 255, U32))
+
+    def cause(self, column):
+        """A cause of that column, with a row there or without one, by turns on the edge of the
+        tables; or one that another column has a row for."""
+        r = self.r
+        rows = sorted(BACKING[column] | OTHERS[column]) if column < 5 else (8,)
+        strange = r.choice((0, 1, 7, 10, 14, 16, 18, 24, 25, 27, 36, 41, 44, 57, 63, 64, 65, 68, 70, 80, 82, 127, 128, 255, 256))
+        other = r.choice(sorted(r.choice(BACKING)))
+        return r.choice((r.choice(rows), r.choice(rows), r.choice(rows), r.choice(rows), self.weighty(column),
+                         r.randrange(50), r.randrange(256), strange, other))
+
+    def weighty(self, column):
+        """A cause that matters most in its column: of MM and GMM one for both registrations."""
+        r = self.r
+        return r.choice(((8, 9, 2), (2, 3, 6, 8, 9, 7), (27, 28, 33, 34, 34, 39), (22, 69, 81), (17, 21))[column] if column < 5 else (8,))
 
     def rejection(self, service):
         r = self.r
-        return "J", self.time(), service, self.cause(), r.choice((0, 0, 0, 1, 1, 1, r.choice((0, 1, 1, 2, U32))))
+        column = self.column(service)
+        return "J", self.time(), service, self.cause(column), r.choice((0, 0, 0, 1, 1, 1, r.choice((0, 1, 1, 2, U32)))), column
 
     def blind(self):
         """A call that asks nothing of the standing and leaves some ranges."""
         r = self.r
         service = r.choice((0, 1, 2, 2, 3, 4, 5, 6, 7, U32))
+        column = self.column(service)
         return r.choice((("Q", self.time(), service), ("G", self.time(), service), ("S", self.time(), service), ("D", self.time()),
-                         ("J", self.time(), service, r.choice((self.cause(), 256, U32)), r.choice((0, 1, 2)))))
+                         ("J", self.time(), service, r.choice((self.cause(column), 256, U32)), r.choice((0, 1, 2)), column)))
 
     def call(self):
         r, standing = self.r, self.idea.standing
@@ -324,6 +356,10 @@ class Maker:
 
     def ill_formed(self):
         r = self.r
+        if r.random() < 0.05:
+            # a rejection that names no column, or more than one
+            line = self.text(self.rejection(r.randrange(4)))
+            return r.choice((line[:line.rfind(b" ")], line[:line.rfind(b" ") + 1], line + b" 0", line + b"," + line[-1:]))
         line = self.text(r.choice((self.call, self.call, self.call, self.blind, self.at_call))()) if r.random() < 0.8 else self.o_line(self.opening())
         fields = line.split(b" ")
         i = r.randrange(len(fields))
@@ -446,18 +482,71 @@ class Maker:
         self.mixed(40)
 
     def weary(self):
-        """Over 255 failures in a row of one service, each asked again as soon as its back-off ends."""
+        """Over 255 failures in a row of one service, each asked again as soon as its back-off ends;
+        of a registration by causes that take the other along, or by others."""
         r = self.r
         self.manner()
         service = r.randrange(4)
+        column = r.choice(COLUMNS[service])
+        causes = sorted(BOTH[column] if BOTH[column] and r.random() < 0.5 else BACKING[column])
         self.open(t=r.randrange(LATEST // 2), intervals=self.intervals(), parameters=[0] * 6, a1=0, s1=0)
         for _ in range(r.randint(258, 300)):
             t = max(self.idea.t, self.idea.ends[service])
             if r.random() < 0.1 and t > self.idea.t:
                 self.act(("Q", t - 1, service))
             self.act(("Q", t, service))
-            self.act(r.choice((("S", t, service), ("J", t, service, 26, 0))))
+            self.act(r.choice((("S", t, service), ("J", t, service, r.choice(causes), 0, column))))
         self.mixed(40)
+
+    def paired(self):
+        """The two registrations: each asked, waiting and held while the other is rejected by a row
+        for both, and asked again at the ends of both back-offs."""
+        r = self.r
+        self.manner()
+        few = sorted(r.sample(range(1, r.choice((6, 90, 300))), r.choice((1, 1, 2, 3, 4))))
+        self.open(t=r.choice((0, 1000, r.randrange(LATEST // 2))), intervals=few, a1=r.choice((0, 0, 0, 5)), parameters=[0] * 6)
+        for _ in range(r.randint(20, 60)):
+            idea = self.idea
+            asked = [s for s in (0, 1) if idea.standing[s] == 1]
+            x = r.random()
+            t = idea.t + r.choice((0, 0, 0, 1, 2))
+            if asked and x < 0.45:
+                service = r.choice(asked)
+                both = x < 0.3
+                cause = r.choice(sorted(BOTH[service] if both else BACKING[service] - BOTH[service]))
+                self.act(("J", t, service, cause, r.choice((0, 1)), service))
+            elif asked and x < 0.55:
+                self.act((r.choice("GS"), t, r.choice(asked)))
+            elif x < 0.85:
+                later = [end for end in idea.ends[:2] if end > idea.t]
+                then = r.choice(later) + r.choice((-1, 0, 0, 1)) if later and r.random() < 0.5 else t
+                self.act(("Q", then, r.choice((0, 1))))
+            elif x < 0.88:
+                self.act(("Q", t, 5))
+            else:
+                self.mixed(1)
+
+    def pending(self):
+        """A registration is asked, and held while it is, by rejections of the other, which ends its
+        back-offs sooner: it has failed less often, and the intervals grow fast."""
+        r = self.r
+        self.manner()
+        held = r.choice((0, 1))
+        other = 1 - held
+        self.open(t=r.choice((0, 1000, r.randrange(LATEST // 2))), intervals=[2, 30, 400, 5000, 60_000], parameters=[0] * 6, a1=0)
+        for _ in range(r.randint(1, 3)):
+            self.act(("Q", max(self.idea.t, self.idea.ends[held]), held))
+            self.act(("S", self.idea.t, held))
+        self.act(("Q", self.idea.ends[held], held))
+        for _ in range(r.randint(1, 3)):
+            self.act(("Q", max(self.idea.t, self.idea.ends[other]), other))
+            self.act(("J", self.idea.t, other, r.choice(sorted(BOTH[other])), 0, other))
+        t = self.idea.t + r.choice((0, 1))
+        causes = BOTH[held] if r.random() < 0.5 else BACKING[held] | OTHERS[held]
+        self.act(r.choice((("G", t, held), ("S", t, held), ("J", t, held, r.choice(sorted(causes)), 0, held))))
+        for service in held, other:
+            self.act(("Q", t, service))
+        self.mixed(20)
 
     def stubborn(self):
         """Over 255 blocks by one limit, most within an hour."""
@@ -467,7 +556,7 @@ class Maker:
         self.open(t=r.randrange(LATEST // 2), intervals=[1], parameters=[1, 0, 1, 1, 1, 2], a1=1, s1=1)
         self.act(("Q", self.idea.t, 2 if request == 4 else request))
         if request == 2:
-            self.act(r.choice((("S", self.idea.t, 2), ("J", self.idea.t, 2, 33, 0), ("J", self.idea.t, 2, 26, 0))))
+            self.act(r.choice((("S", self.idea.t, 2), ("J", self.idea.t, 2, 33, 0, 2), ("J", self.idea.t, 2, 26, 0, 2))))
             self.act(("T", self.idea.t + 2))
         elif request == 4:
             self.act(("G", self.idea.t, 2))
@@ -486,7 +575,8 @@ class Maker:
         r = self.r
         self.manner()
         granted = ("G",)
-        request, last = ((5, granted), (2, ("S",)), (2, ("J", 33, 0)), (2, ("J", 26, 0)), (2, granted), (r.choice((0, 1)), granted), (3, granted))[which]
+        permanent, temporary = ("J", 33, 0, 2), ("J", 26, 0, 2)
+        request, last = ((5, granted), (2, ("S",)), (2, permanent), (2, temporary), (2, granted), (r.choice((0, 1)), granted), (3, granted))[which]
         limits = [0] * 7
         limit = limits[which] = r.choice((1, 2, 3, 20, 255))
         n1, f1, f2, f3, f4, a1, s1 = limits
@@ -528,7 +618,7 @@ class Maker:
             return
         t += r.choice((0, 0, 1))
         if k == 1 and not clear:
-            self.act(r.choice((("S", t, 2), ("J", t, 2, r.choice((8, 27, 28, 32)), 0), ("J", t, 2, r.randrange(256), r.choice((0, 1))))))
+            self.act(r.choice((("S", t, 2), ("J", t, 2, r.choice((8, 27, 28, 32)), 0, 2), ("J", t, 2, r.randrange(256), r.choice((0, 1)), 2))))
         else:
             self.act(("G", t, request))
 
@@ -545,6 +635,10 @@ def stream(seed, count):
             maker.stubborn()
         elif i % 60 == 40:
             maker.returning(i // 60 % 7)
+        elif i % 30 == 7:
+            maker.paired()
+        elif i % 60 == 22:
+            maker.pending()
         else:
             maker.plain()
     return b"\n".join(maker.lines) + maker.r.choice((b"", b"\n"))
