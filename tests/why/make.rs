@@ -239,9 +239,9 @@ impl Trace {
         self.said(&format!("G {time} {service}"), answer);
     }
 
-    fn reject(&mut self, time: u32, service: u32, cause: u32, second: u32) {
-        let answer = rejected(&mut self.state, time, service, cause, second);
-        self.said(&format!("J {time} {service} {cause} {second}"), answer);
+    fn reject(&mut self, time: u32, service: u32, cause: u32, second: u32, column: u32) {
+        let answer = rejected(&mut self.state, time, service, cause, second, column);
+        self.said(&format!("J {time} {service} {cause} {second} {column}"), answer);
     }
 
     fn silence(&mut self, time: u32, service: u32) {
@@ -298,7 +298,7 @@ impl Maker {
         let mut printed = Trace::new();
         printed.open(1000, 1_010_123_456_789, [0; 6], 0, 2);
         printed.ask(1000, 2);
-        printed.reject(1010, 2, 26, 0);
+        printed.reject(1010, 2, 26, 0, 2);
         self.trace("back-off", &printed, &[(1112, 2), (1113, 2), (1009, 2)])?;
         printed.ask(1112, 2);
         printed.ask(1113, 2);
@@ -321,11 +321,28 @@ impl Maker {
         for kind in [0, 2, 3] {
             three.ask(5 + kind, kind);
         }
-        three.reject(10, 2, 26, 0);
+        three.reject(10, 2, 26, 0, 2);
         three.silence(11, 0);
-        three.reject(12, 3, 0, 0);
+        three.reject(12, 3, 17, 0, 4);
         three.ask(12, 5);
         self.trace("three", &three, &[(50, 2), (50, 0), (50, 3), (50, 5), (113, 2), (3606, 2), (3607, 2)])?;
+
+        // GMM 6 holds GSM's registration too, GMM 7 and MM 11 do not, and RP 17 holds nothing.
+        let mut columns = Trace::new();
+        columns.open(0, 1_010_123_456_789, [0; 6], 0, 0);
+        for kind in [0, 1, 3] {
+            columns.ask(0, kind);
+        }
+        columns.ill_formed("J 1 1 6 0");
+        columns.reject(1, 1, 6, 0, 0);
+        columns.reject(1, 1, 6, 0, 5);
+        columns.reject(1, 3, 17, 0, 3);
+        columns.reject(1, 0, 11, 0, 0);
+        columns.reject(1, 1, 7, 0, 1);
+        self.trace("columns", &columns, &[(2, 0), (2, 1), (2, 3)])?;
+        columns.ask(104, 1);
+        columns.reject(105, 1, 6, 0, 1);
+        self.trace("both", &columns, &[(106, 0), (106, 1), (207, 0), (208, 0), (256, 1), (257, 1)])?;
 
         let mut long = Trace::new();
         long.open(4_294_967, LARGEST_IMSI, [0; 6], 0, 255);
@@ -367,8 +384,8 @@ impl Maker {
             trace.ask(sent, 2);
             match mood {
                 1 => trace.silence(sent, 2),
-                2 => trace.reject(sent, 2, 33, 0),
-                _ => trace.reject(sent, 2, 26, 0),
+                2 => trace.reject(sent, 2, 33, 0, 2),
+                _ => trace.reject(sent, 2, 26, 0, 2),
             }
             self.trace(&format!("mood{mood}"), &trace, &times.map(|time| (time, 2)))?;
         }
@@ -389,12 +406,17 @@ impl Maker {
                 0 => trace.clock(time),
                 1 => trace.drop(time),
                 2 => trace.at(random.pick(&["AT+NFM=0", "AT+NFM=1,1", "AT+NFM=?", "AT+NFMCI=1,2", "AT+NFM=2"])),
-                3 => trace.ill_formed(random.pick(&["", "Q", "Q 1 2 ", "q 1 2", "T 01", "T -1", "T 4294967296", "X 1"])),
+                3 => trace.ill_formed(random.pick(&["", "Q", "Q 1 2 ", "q 1 2", "T 01", "T -1", "T 4294967296", "X 1", "J 1 2 26 0"])),
                 4 => trace.ask(time, random.number(7)),
                 5 => trace.open(time, 1_010_123_456_789, [0, 0, 1, 1, 1, 2], 256 * random.number(2), 1),
                 6 | 7 if asked => trace.grant(time, service),
                 8 if asked => trace.silence(time, service),
-                _ if asked => trace.reject(time, service, random.number(64), random.number(2)),
+                _ if asked => {
+                    let column = if random.chance(80) { random.pick(columns(service)) } else { random.number(6) };
+                    let both = random.pick(&[2, 3, 6, 8, 9]);
+                    let cause = if random.chance(40) { both } else { random.number(64) };
+                    trace.reject(time, service, cause, random.number(2), column);
+                }
                 _ => trace.ask(time, service),
             }
         }
