@@ -44,7 +44,8 @@ const MANNERS: [(&str, Manner); 3] =
 /// The rules by the number that they give back: NFM's back-off, then the seven limits.
 const RULES: [(u32, &str); 8] = [(10, "NFM"), (11, "N1"), (13, "F1"), (14, "F2"), (15, "F3"), (16, "F4"), (17, "A1"), (18, "S1")];
 
-/// The workers of an uploader. No two of them have a list in common.
+/// The workers of an uploader. No two of them have a list in common, nor a back-off: the two
+/// registrations, which some causes hold together, are one worker's.
 const WORKERS: [&str; 4] = ["attach", "PDP", "SMS", "reset"];
 const ATTACH: usize = 0;
 const PDP: usize = 1;
@@ -65,13 +66,26 @@ struct Outcome {
 enum How {
     Granted,
     Silent,
-    Rejected(u32),
+    /// In a column, by a cause.
+    Rejected(u32, u32),
 }
 
+/// Columns with causes as they may come: service 0 to 2 has the column of its number, service 3 the
+/// last two. Most back off, some of those in the first two columns both registrations.
+const REJECTIONS: [(u32, &[u32]); 5] = [
+    (0, &[2, 3, 5, 6, 8, 9, 11, 12, 15, 17, 22, 34, 95]),
+    (1, &[2, 3, 6, 7, 8, 9, 10, 14, 16, 17, 22, 111]),
+    (2, &[8, 26, 27, 28, 29, 30, 31, 32, 33, 34, 35, 36, 38, 39, 111]),
+    (3, &[8, 10, 21, 22, 27, 28, 38, 41, 42, 69, 81]),
+    (4, &[17, 21, 22]),
+];
+
 impl Outcome {
-    fn drawn(random: &mut Random) -> Outcome {
-        let cause = random.pick(&[8, 26, 27, 28, 29, 30, 31, 32, 33, 34, 35, 36, 111]);
-        let how = random.pick(&[How::Granted, How::Granted, How::Granted, How::Silent, How::Rejected(cause)]);
+    fn drawn(random: &mut Random, service: u32) -> Outcome {
+        let last = if service == 3 { 4 } else { service };
+        let (column, causes) = random.pick(&REJECTIONS[service as usize..=last as usize]);
+        let rejected = How::Rejected(column, random.pick(causes));
+        let how = random.pick(&[How::Granted, How::Granted, How::Granted, How::Silent, rejected]);
         Outcome { how, after: random.number(9), used: random.number(20) }
     }
 }
@@ -87,7 +101,7 @@ fn outcome(state: &mut State, time: u32, service: u32, how: How) -> Answer {
         match how {
             How::Granted => c::dialchisel_granted(s, STATE, time, service),
             How::Silent => c::dialchisel_silent(s, STATE, time, service),
-            How::Rejected(cause) => c::dialchisel_rejected(s, STATE, time, service, cause, 0),
+            How::Rejected(column, cause) => c::dialchisel_rejected(s, STATE, time, service, cause, 0, column),
         }
     }
 }
@@ -203,7 +217,8 @@ impl<'a> Worker<'a> {
                 self.finish(now);
             }
             _ => {
-                let outcome = Outcome::drawn(&mut self.random);
+                let kind = self.kind();
+                let outcome = Outcome::drawn(&mut self.random, kind);
                 self.awaits = Some(outcome);
                 self.next = now + outcome.after;
             }
@@ -267,7 +282,7 @@ impl<'a> Run<'a> {
                 continue;
             };
             let answer = outcome(&mut self.state, now, worker.kind(), awaited.how);
-            if !matches!(answer.number, 0 | 20..=23) {
+            if !matches!(answer.number, 0 | 20..=28) {
                 self.fail(who, format!("its outcome at {now} was answered {}", shown(answer)));
             }
             worker.answered(now, awaited);
