@@ -27,8 +27,8 @@ const WITHOUT_F4: &str = "O 0 1010123456789 60 20,10,60,30,60,0 0,0,0 0 0";
 const LIMITS: [(&str, &[&str], u32, u32); 5] = [
     (BY_RTC10, &["Q T 5"], 20, 11),                   // N1: reset
     (WITHOUT_F4, &["Q T 2", "S T 2"], 60, 13),        // F1: activation, ignored
-    (BY_RTC10, &["Q T 2", "J T 2 33 0"], 30, 14),     // F2: rejected, permanent
-    (WITHOUT_F4, &["Q T 2", "J T 2 26 0"], 60, 15),   // F3: rejected, temporary
+    (BY_RTC10, &["Q T 2", "J T 2 33 0 2"], 30, 14),   // F2: rejected, permanent
+    (WITHOUT_F4, &["Q T 2", "J T 2 26 0 2"], 60, 15), // F3: rejected, temporary
     (BY_RTC10, &["Q T 2", "G T 2", "Q T 4"], 15, 16), // F4: a pair is two requests
 ];
 /// More than any limit can be.
@@ -100,7 +100,9 @@ impl Module {
             ("Q", &[time, kind]) => unsafe { c::dialchisel_request(state, STATE, time, kind) },
             ("G", &[time, service]) => unsafe { c::dialchisel_granted(state, STATE, time, service) },
             ("S", &[time, service]) => unsafe { c::dialchisel_silent(state, STATE, time, service) },
-            ("J", &[time, service, cause, second]) => unsafe { c::dialchisel_rejected(state, STATE, time, service, cause, second) },
+            ("J", &[time, service, cause, second, column]) => unsafe {
+                c::dialchisel_rejected(state, STATE, time, service, cause, second, column)
+            },
             ("D", &[time]) => unsafe { c::dialchisel_dropped(state, STATE, time) },
             _ => return None,
         })
