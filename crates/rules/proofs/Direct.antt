@@ -19,6 +19,7 @@ use Rattle.rules.proofs.Newest.{rising-more}
 use Rattle.rules.proofs.Hour.{rising-at}
 use Rattle.rules.proofs.Limited.{either}
 use Rattle.rules.proofs.Given.{Rises}
+use Rattle.rules.proofs.Reached.{waits-reached, stays-unreached}
 
 module _ (g : State) (past : List Entry) where
   -- a limit's number, and the list that it counts: its request's permit goes there
@@ -158,4 +159,6 @@ module _ (g : State) (past : List Entry) where
     an-hour-at-most = λ t q e. seconds up (lines (timed t (ask q))) e;
     backs-off-then = λ t s o x. waits (lines (timed t (outcome s o))) x;
     and-only-then = λ c e. twenty (lines c) e;
+    each-for-its-wait = λ t s o x u r. waits-reached g past t s o (next (timed t (outcome s o))) x u r;
+    and-no-other = λ t s o x u r. stays-unreached g past t s o (next (timed t (outcome s o))) x u r;
   }

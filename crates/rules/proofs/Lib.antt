@@ -10,6 +10,7 @@ pub mod Rows
 pub mod Limited
 pub mod Accepting
 pub mod Given
+pub mod Reached
 pub mod Direct
 pub mod Idle
 pub mod Demand3

@@ -9,7 +9,7 @@ use mathlib.Core.List.{List, [], _∷_, _++_}
 use mathlib.Core.Logic.{_⊎_, _≢_}
 use Rattle.rules.specs.declared.Answer.{Answer}
 use Rattle.rules.specs.Calls.{Opening, Outcome, Event, ask, outcome, granted, silent, rejected, dropped, tick, Line, nfm, nfm-start, intervals, query, bad, Call, timed, typed, Entry, entry, answer}
-use Rattle.rules.specs.Causes.{action}
+use Rattle.rules.specs.Causes.{action, both}
 use Rattle.rules.specs.Tables.{highestTime, inHour, freeIn, Kind, attach, activation, pdp, sms, reset, among, limiting, rank, oneMore, waitFor, scheduled}
 use Rattle.rules.specs.State.{State}
 use Rattle.rules.specs.Record.{lastTime, nfmNow, intervalsNow, permits, toBackOff, failures, backOffEnd, standing, mood}
@@ -49,6 +49,13 @@ written (nfm-start a s) = 4
 written (intervals l) = 4
 written query = 15
 written bad = 0
+
+-- ---- Whom a back-off on outcome o of service s reaches: that service, and on a row of "GSM and
+-- GPRS" both registrations
+
+pub data Reached (s : ℕ) : Outcome → ℕ → Type 0 where
+  itself : {o : Outcome} → Reached s o s
+  registration : {cause second column u : ℕ} → both column cause ≡ true → u ≤ 1 → Reached s (rejected cause second column) u
 
 -- ---- After the record `past`, from the start g on
 
@@ -187,3 +194,8 @@ module _ (g : State) (past : List Entry) where
     -- a back-off begins with what happened, and 20 is given for nothing else
     pub backs-off-then : (t s : ℕ) (o : Outcome) → BacksOff (timed t (outcome s o)) → next (timed t (outcome s o)) ≡ answer 20 (nextWait s)
     pub and-only-then : (c : Call) → next c .number ≡ 20 → BacksOff c
+    -- it holds each service that it reaches for that service's own wait, and no other
+    pub each-for-its-wait : (t s : ℕ) (o : Outcome) → BacksOff (timed t (outcome s o)) → (u : ℕ) → Reached s o u
+        → backOffEnd g u (entry (timed t (outcome s o)) (next (timed t (outcome s o))) ∷ past) ≡ t + nextWait u
+    pub and-no-other : (t s : ℕ) (o : Outcome) → BacksOff (timed t (outcome s o)) → (u : ℕ) → (Reached s o u → ⊥)
+        → backOffEnd g u (entry (timed t (outcome s o)) (next (timed t (outcome s o))) ∷ past) ≡ backOffEnd g u past
