@@ -3,7 +3,7 @@ use mathlib.Core.Path.{_≡_, refl, sym, ap, _∙_}
 use mathlib.Core.Bool.{Bool, true, false, cond, _&&_, _||_, false≢true}
 use mathlib.Core.List.{[], _∷_}
 use mathlib.Core.Logic.{_≢_}
-use Prim.Native.Nat.{ℕ, _+_, _-_, _≤_}
+use Prim.Native.Nat.{ℕ, _-_, _≤_}
 use native.Mathlib.Omega.{arith}
 use lib.Dec.{ltb, leb, eqb}
 use lib.ListN.{getD}
@@ -16,9 +16,9 @@ use Rattle.causes.specs.Tables.{plain, spelled, numbers, means}
 
 -- ---- The actions
 
--- what a digit tells
+-- what an entry tells
 abbrev pub told : ℕ → ℕ → ℕ
-told e second = cond (eqb e 0) 23 (cond (ltb 9 e) 20 (cond (eqb e 2) (cond (eqb second 1) 22 20) (20 + e)))
+told e second = cond (eqb e plain) 23 (cond (ltb 57 e) 20 (cond (eqb e 50) (cond (eqb second 1) 22 20) (e - 28)))
 
 tells : (x : Action) (second : ℕ) → told (spelled x) second ≡ numberOf x second
 tells back-off second = refl
@@ -36,7 +36,7 @@ pub entry-tells : (column cause second : ℕ) {e : ℕ} → e ≡ spelled (print
 unfolding action
 entry-tells column cause second p = ap (λ (e : ℕ). told e second) p ∙ tells (printed column cause .action) second
 
-pub tells-both : (x : Action) → eqb (spelled x) 13 ≡ ofBoth x
+pub tells-both : (x : Action) → eqb (spelled x) 100 ≡ ofBoth x
 tells-both back-off = refl
 tells-both both-back-off = refl
 tells-both re-attach = refl
@@ -47,6 +47,19 @@ tells-both not-same-area = refl
 tells-both not-same-cell = refl
 tells-both reactivate = refl
 tells-both re-establish = refl
+
+-- an entry is no less than `.`
+pub entry-low : (x : Action) → 46 ≤ spelled x
+entry-low back-off = omega arith
+entry-low both-back-off = omega arith
+entry-low re-attach = omega arith
+entry-low other-network = omega arith
+entry-low as-3GPP = omega arith
+entry-low not-same-PLMN = omega arith
+entry-low not-same-area = omega arith
+entry-low not-same-cell = omega arith
+entry-low reactivate = omega arith
+entry-low re-establish = omega arith
 
 -- ---- The numbers of actions
 

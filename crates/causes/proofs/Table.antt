@@ -3,16 +3,15 @@
 use mathlib.Core.Path.{_≡_, refl, sym, ap, _∙_}
 use mathlib.Core.Bool.{Bool, true, false, cond, _&&_, _||_}
 use mathlib.Core.List.{List, [], _∷_}
-use Prim.Native.Nat.{ℕ, zero, suc, _+_, _-_, _*_, _/_, _%_, _^_, _≤_, _<_}
+use Prim.Native.Nat.{ℕ, zero, suc, _+_, _≤_, _<_}
 use native.Mathlib.Nat.{add-zero, zero-add, add-suc, suc-add, le-of-suc-le-suc, not-suc-le-zero}
 use native.Mathlib.Omega.{arith}
 use lib.Dec.{ltb, eqb}
-use lib.Pow.{shr-le}
 use lib.ListN.{length, getD, List·getD-eq-default}
 use borrow.Author.Tests.{ltb-true, ltb-false, eqb-true, eqb-false}
 use Rattle.rules.specs.Causes.{Row, row, as-3GPP, none, columns, rowOf, printed}
 use Rattle.rules.proofs.Checks.{and-left, and-right}
-use Rattle.causes.specs.Tables.{spelled, digitOf, below, packs, plain, entryAt, means}
+use Rattle.causes.specs.Tables.{plain, entryAt, spelled, means}
 
 -- inside a table it does not matter what stands for a cause beyond it
 pub inside-alike : (xs : List ℕ) (k d e : ℕ) → k < length xs → getD xs k d ≡ getD xs k e
@@ -64,51 +63,25 @@ module _ (fits : ℕ → Row → Bool) (d : ℕ) where
           let h = ltb-false k (length xs) e in
           rw (List·getD-eq-default xs d h) (beyond rows (length xs) k h free (and-right (each rows 0 xs) _ t))
 
--- ---- The actions
+-- ---- The tables of actions and of error numbers, column by column
 
-below-at : (n : ℕ) (test : ℕ → Bool) → below n test ≡ true → (k : ℕ) → k < n → test k ≡ true
-below-at zero test t k h = absurd (not-suc-le-zero h)
-below-at (suc n) test t k h = go (eqb k n) refl (below-at n test (and-right (test n) _ t) k)
-  where
-    go : (b : Bool) → eqb k n ≡ b → (k < n → test k ≡ true) → test k ≡ true
-    go true e rest = rw (eqb-true k n e) (and-left (test n) _ t)
-    go false e rest = rest (omega (arith, eqb-false k n e))
+-- the actions of a column
+abbrev pub actions : ℕ → List ℕ → Bool
+actions column xs = agrees (λ e r. eqb e (spelled (r .action))) plain (getD columns column []) xs
 
-below-all : (n : ℕ) (test : ℕ → Bool) → ((k : ℕ) → test k ≡ true) → below n test ≡ true
-below-all zero test h = refl
-below-all (suc n) test h = rw (h n) (below-all n test h)
-
-abbrev acts : ℕ → Row → Bool
-acts e r = eqb e (spelled (r .action))
-
--- the digit of a cause in its row
-pub digit-acts : (column cause row : ℕ) {e : ℕ} → packs column (cause / 16) row ≡ true → e ≡ digitOf row (cause % 16) → e ≡ spelled (printed column cause .action)
-unfolding packs
-digit-acts column cause row t e =
-    let is : 16 * (cause / 16) + cause % 16 ≡ cause = omega arith in
-    e ∙ eqb-true _ _ (below-at 16 (λ k. acts (digitOf row k) (printed column (16 * (cause / 16) + k))) t (cause % 16) (omega arith))
-    ∙ ap (λ (n : ℕ). spelled (printed column n .action)) is
-
--- a row without a digit, where all causes from 16 n on are as 3GPP says
-pub no-digits : (column n i : ℕ) → n ≤ i → late acts 0 (16 * n) (getD columns column []) ≡ true → packs column i 0 ≡ true
-unfolding packs printed digitOf
-no-digits column n i h t = below-all 16 (λ k. acts (digitOf 0 k) (rowOf (getD columns column []) (16 * i + k))) each-plain
-  where
-    each-plain : (k : ℕ) → acts (digitOf 0 k) (rowOf (getD columns column []) (16 * i + k)) ≡ true
-    each-plain k =
-        let z : 0 / 2 ^ (60 - 4 * k) % 16 ≡ 0 = omega (arith, shr-le 0 (60 - 4 * k)) in
-        rw z (beyond acts 0 (getD columns column []) (16 * n) (16 * i + k) (omega arith) (λ j. refl) t)
-
--- ---- The error numbers
-
--- a table agrees with a column
+-- its error numbers
 abbrev pub errors : ℕ → List ℕ → Bool
 errors column xs = agrees (λ e r. means e (r .error)) plain (getD columns column []) xs
 
--- an entry of a table that does
-pub errs : (column cause : ℕ) {e : ℕ} (xs : List ℕ) → e ≡ entryAt xs cause → errors column xs ≡ true → means e (printed column cause .error) ≡ true
-unfolding printed entryAt means
-errs column cause xs at t = rw at (tabled (λ e r. means e (r .error)) plain (λ j. refl) (getD columns column []) xs t cause)
+-- an entry of a table that agrees with its column
+module _ (column cause : ℕ) {e : ℕ} (xs : List ℕ) (at : e ≡ entryAt xs cause) where
+  pub acts : actions column xs ≡ true → e ≡ spelled (printed column cause .action)
+  unfolding printed entryAt
+  acts t = at ∙ eqb-true _ _ (tabled (λ e r. eqb e (spelled (r .action))) plain (λ j. refl) (getD columns column []) xs t cause)
+
+  pub errs : errors column xs ≡ true → means e (printed column cause .error) ≡ true
+  unfolding printed entryAt means
+  errs t = rw at (tabled (λ e r. means e (r .error)) plain (λ j. refl) (getD columns column []) xs t cause)
 
 -- a column that is none has no row
 pub no-rows : (column cause : ℕ) → 5 ≤ column → printed column cause ≡ row cause as-3GPP none

@@ -3,130 +3,95 @@
 use rules::Answer;
 ghost use mathlib.Core.Path.{_≡_};
 ghost use mathlib.Core.Bool.{true};
-ghost use Prim.Native.Nat.{_<_};
 ghost use Rattle.rules.specs.Tables.{moodOn};
 ghost use Rattle.rules.specs.Causes.{printed, action, both};
-ghost use Rattle.causes.specs.Tables.{digitOf, spelled, packs, entryAt, means, errorFor};
+ghost use Rattle.causes.specs.Tables.{entryAt, spelled, means, errorFor};
 
-// The tables of actions: a hexadecimal digit for each cause, sixteen causes in a row, in their order:
-// 0 is as 3GPP says, b back off, d both registrations back off, and any other the last digit of the
-// action's number. They are numbers and no arrays, which each call would copy to its stack.
-
-// Column 0, MM.
-fn mm(row: u32) -> u64
-    ensures { λ r. ⌜ packs 0 row r ≡ true ⌝ }
+// The entry of a cause in a table; of one beyond it, that of a cause without a row.
+fn at(table: &[u8], cause: u32) -> u8
+    ensures { λ r. ⌜ r ≡ entryAt (now (table .entry)) cause ⌝ }
 {
-    if row == 0 {
-        return 0x00bb0bb0dd045506;
+    let i = cause as usize;
+    if i < table.len() {
+        return table[i];
     }
-    if row == 1 {
-        return 0x0b0000b000000000;
-    }
-    if row == 2 {
-        return 0x00b0000000000000;
-    }
-    0
+    b'.'
 }
 
-// Column 1, GMM.
-fn gmm(row: u32) -> u64
-    ensures { λ r. ⌜ packs 1 row r ≡ true ⌝ }
+// ---- The actions: a table for each column with an entry for each cause. `.` is as 3GPP says, `b`
+// back off, `d` both registrations back off, and a digit the last of the action's number. Each
+// stands in a function of its own, so that on the stack one takes the place of the other.
+
+// MM.
+fn mm(cause: u32) -> u8
+    ensures { λ r. ⌜ r ≡ spelled (printed 0 cause .action) ⌝ }
 {
-    if row == 0 {
-        return 0x00dd00dbdd045546;
-    }
-    if row == 1 {
-        return 0xbb0000b000000000;
-    }
-    0
+    at(
+        b"..bb.bb.dd.455.6.b....b...........b.............................",
+        cause,
+    )
 }
 
-// Column 2, SM.
-fn sm(row: u32) -> u64
-    ensures { λ r. ⌜ packs 2 row r ≡ true ⌝ }
+// GMM.
+fn gmm(cause: u32) -> u8
+    ensures { λ r. ⌜ r ≡ spelled (printed 1 cause .action) ⌝ }
 {
-    if row == 0 {
-        return 0x00000000b0000000;
-    }
-    if row == 1 {
-        return 0x0000000000bb1bbb;
-    }
-    if row == 2 {
-        return 0xbb2b70b800000000;
-    }
-    0
+    at(
+        b"..dd..dbdd.45546bb....b.........................................",
+        cause,
+    )
 }
 
-// Column 3, RP.
-fn rp(row: u32) -> u64
-    ensures { λ r. ⌜ packs 3 row r ≡ true ⌝ }
+// SM.
+fn sm(cause: u32) -> u8
+    ensures { λ r. ⌜ r ≡ spelled (printed 2 cause .action) ⌝ }
 {
-    if row == 0 {
-        return 0x00000000b0b00000;
-    }
-    if row == 1 {
-        return 0x00000bb00000bbb0;
-    }
-    if row == 2 {
-        return 0x000000b00bb0000b;
-    }
-    if row == 3 {
-        return 0x00b0000000000000;
-    }
-    if row == 4 {
-        return 0x00000b0000000000;
-    }
-    if row == 5 {
-        return 0x0b00000000000000;
-    }
-    0
+    at(
+        b"........b.................bb1bbbbb2b7.b8........................",
+        cause,
+    )
 }
 
-// Column 4, CP.
-fn cp(row: u32) -> u64
-    ensures { λ r. ⌜ packs 4 row r ≡ true ⌝ }
+// RP.
+fn rp(cause: u32) -> u8
+    ensures { λ r. ⌜ r ≡ spelled (printed 3 cause .action) ⌝ }
 {
-    if row == 1 {
-        return 0x0b000b0000000000;
-    }
-    0
+    at(
+        b"........b.b..........bb.....bbb.......b..bb....b..b..................b...........b..............................................",
+        cause,
+    )
 }
 
-// A row of a column; an unknown column has none.
-fn packed(column: u32, row: u32) -> u64
-    ensures { λ r. ⌜ packs column row r ≡ true ⌝ }
+// CP.
+fn cp(cause: u32) -> u8
+    ensures { λ r. ⌜ r ≡ spelled (printed 4 cause .action) ⌝ }
 {
-    if column == 0 {
-        return mm(row);
-    }
-    if column == 1 {
-        return gmm(row);
-    }
-    if column == 2 {
-        return sm(row);
-    }
-    if column == 3 {
-        return rp(row);
-    }
-    if column == 4 {
-        return cp(row);
-    }
-    0
+    at(
+        b".................b...b..........................................",
+        cause,
+    )
 }
 
-// Digit k of a row, the first the highest.
-fn digit(row: u64, k: u32) -> u32
-    requires { ⌜ k < 16 ⌝ }
-    ensures { λ r. ⌜ r ≡ digitOf row k ⌝ }
-{
-    ((row >> (60 - 4 * k)) % 16) as u32
-}
-
-// The entry of a cause.
-fn entry(column: u32, cause: u32) -> u32
+// The entry of a cause of any column; an unknown one has no rows.
+fn entry(column: u32, cause: u32) -> u8
     ensures { λ r. ⌜ r ≡ spelled (printed column cause .action) ⌝ }
 {
-    digit(packed(column, cause / 16), cause % 16)
+    if column == 0 {
+        return mm(cause);
+    }
+    if column == 1 {
+        return gmm(cause);
+    }
+    if column == 2 {
+        return sm(cause);
+    }
+    if column == 3 {
+        return rp(cause);
+    }
+    if column == 4 {
+        return cp(cause);
+    }
+    b'.'
 }
 
 // What to do on a cause; second is 1 where a second network is there.
@@ -134,14 +99,14 @@ pub fn action(column: u32, cause: u32, second: u32) -> u32
     ensures { λ r. ⌜ r ≡ action column cause second ⌝ }
 {
     let e = entry(column, cause);
-    if e == 0 {
+    if e == b'.' {
         return 23;
     }
-    if 9 < e {
+    if b'9' < e {
         return 20;
     }
-    if e != 2 {
-        return 20 + e;
+    if e != b'2' {
+        return (e as u32) - 28;
     }
     if second == 1 {
         return 22;
@@ -153,10 +118,13 @@ pub fn action(column: u32, cause: u32, second: u32) -> u32
 pub fn both(column: u32, cause: u32) -> bool
     ensures { λ r. ⌜ r ≡ both column cause ⌝ }
 {
-    entry(column, cause) == 13
+    entry(column, cause) == b'd'
 }
 
-// The error numbers of the page, a to l CME and m to y CMS; 42 is both.
+// ---- The error numbers: a table for each column with a letter for each cause, `.` where it has
+// none.
+
+// The numbers of the letters, `a` to `l` CME and `m` to `y` CMS; 42 is both.
 const NUMBERS: [u32; 25] = [
     42,
     103,
@@ -185,44 +153,61 @@ const NUMBERS: [u32; 25] = [
     81,
 ];
 
-// The entry of a cause in a table of error numbers; of one beyond it, that of no number.
-fn at(table: &[u8], cause: u32) -> u8
-    ensures { λ r. ⌜ r ≡ entryAt (now (table .entry)) cause ⌝ }
+// MM.
+fn mm_error(cause: u32) -> u8
+    ensures { λ r. ⌜ means r (printed 0 cause .error) ≡ true ⌝ }
 {
-    let i = cause as usize;
-    if i < table.len() {
-        return table[i];
-    }
-    b'.'
+    at(
+        b"...b..c....efg...l....a.........hij.............................",
+        cause,
+    )
 }
 
-// The error number of a cause, as the tables spell it: `.` is none, a letter one of NUMBERS.
+// GMM.
+fn gmm_error(cause: u32) -> u8
+    ensures { λ r. ⌜ means r (printed 1 cause .error) ≡ true ⌝ }
+{
+    at(
+        b"...c..cd...efg...l....a.........................................",
+        cause,
+    )
+}
+
+// SM.
+fn sm_error(cause: u32) -> u8
+    ensures { λ r. ⌜ means r (printed 2 cause .error) ≡ true ⌝ }
+{
+    at(
+        b"...........................j.k..hij...l.........................",
+        cause,
+    )
+}
+
+// RP.
+fn rp_error(cause: u32) -> u8
+    ensures { λ r. ⌜ means r (printed 3 cause .error) ≡ true ⌝ }
+{
+    at(
+        b"........m.n..........op.....qrs.......t..ua....v..w..................x...........y..............................................",
+        cause,
+    )
+}
+
+// The letter of a cause of any column; in CP, and in an unknown one, none has a number.
 fn letter(column: u32, cause: u32) -> u8
     ensures { λ r. ⌜ means r (printed column cause .error) ≡ true ⌝ }
 {
     if column == 0 {
-        return at(
-            b"...b..c....efg...l....a.........hij.............................",
-            cause,
-        );
+        return mm_error(cause);
     }
     if column == 1 {
-        return at(
-            b"...c..cd...efg...l....a.........................................",
-            cause,
-        );
+        return gmm_error(cause);
     }
     if column == 2 {
-        return at(
-            b"...........................j.k..hij...l.........................",
-            cause,
-        );
+        return sm_error(cause);
     }
     if column == 3 {
-        return at(
-            b"........m.n..........op.....qrs.......t..ua....v..w..................x...........y..............................................",
-            cause,
-        );
+        return rp_error(cause);
     }
     b'.'
 }

@@ -29,7 +29,7 @@ use Rattle.clock.proofs.Leaking.{laid-moved}
 use Rattle.causes.proofs.Causes.{action-low}
 use Rattle.backoff.specs.Backoffs.{clear, stored, backed}
 use Rattle.backoff.proofs.Backoffs.{laid-stored, laid-backed}
-use Rattle.outcome.specs.Outcome.{rested, checked, served}
+use Rattle.outcome.specs.Outcome.{rested, checked, clocked, served}
 
 -- ---- A service at rest, on a buffer that is laid out
 
@@ -92,22 +92,18 @@ module _ (new : ℕ → ℕ → ℕ) (y : Bool) where
 -- ---- What is left
 
 module _ (b : List ℕ) (g : good b ≡ true) (t i : ℕ) (h : i < 4) where
-  -- after the clock
-  abbrev Clocked : List ℕ → Type 0
-  Clocked x = x ≡ spread (moved t (factsOf b)) (rows (view b .lists))
-
-  pub grants : {x y z : List ℕ} → Clocked x → y ≡ stored x i clear → z ≡ rested y i (cond (eqb i 2) 2 0) 0
+  pub grants : {x y z : List ℕ} → x ≡ clocked b t → y ≡ stored x i clear → z ≡ rested y i (cond (eqb i 2) 2 0) 0
       → z ≡ served b t (onGranted i (factsOf b .services))
   unfolding moved onGranted
   grants p q r = laid-as (laid-rested (laid-as (laid-stored (laid-moved b g t p) i h clear) q) i h (cond (eqb i 2) 2 0) 0) r .is
 
   -- after a failure of service i whose answer has number k: it backs off for w seconds
-  pub fails : (k m w : ℕ) {x y z : List ℕ} → (eqb k 20 ≡ true → w ≡ wait (factsOf b) i) → Clocked x → y ≡ rested x i 0 m → z ≡ backed y t i k w
+  pub fails : (k m w : ℕ) {y z : List ℕ} → (eqb k 20 ≡ true → w ≡ wait (factsOf b) i) → y ≡ rested (clocked b t) i 0 m → z ≡ backed y t i k w
       → z ≡ served b t (onFailed t i (eqb k 20) false m (factsOf b))
   unfolding moved onFailed
-  fails k m w long p q r =
+  fails k m w long q r =
       let l = laid-good b g .shaped in
-      laid-as (laid-backed (laid-as (laid-rested (laid-moved b g t p) i h 0 m) q) i h t k w) r .is
+      laid-as (laid-backed (laid-as (laid-rested (laid-moved b g t refl) i h 0 m) q) i h t k w) r .is
       ∙ (λ j. served b t (record {
         failures = one-of-four (λ u n. oneMore n) (eqb k 20) i h (factsOf b .services .failures) (l .failures) j;
         ends = (until (eqb k 20) refl ∙ one-of-four (λ u n. t + wait (factsOf b) u) (eqb k 20) i h (factsOf b .services .ends) (l .ends)) j;
@@ -121,12 +117,12 @@ module _ (b : List ℕ) (g : good b ≡ true) (t i : ℕ) (h : i < 4) where
       until false e = refl
 
   -- both registrations do, for w and v seconds
-  pub fails-both : (k m w v : ℕ) {x y z z′ : List ℕ} → w ≡ wait (factsOf b) 0 → v ≡ wait (factsOf b) 1 → Clocked x → y ≡ rested x i 0 m → z ≡ backed y t 0 k w → z′ ≡ backed z t 1 k v
+  pub fails-both : (k m w v : ℕ) {y z z′ : List ℕ} → w ≡ wait (factsOf b) 0 → v ≡ wait (factsOf b) 1 → y ≡ rested (clocked b t) i 0 m → z ≡ backed y t 0 k w → z′ ≡ backed z t 1 k v
       → z′ ≡ served b t (onFailed t i (eqb k 20) true m (factsOf b))
   unfolding moved onFailed
-  fails-both k m w v first other p q r r′ =
+  fails-both k m w v first other q r r′ =
       let l = laid-good b g .shaped in
-      laid-as (laid-backed (laid-as (laid-backed (laid-as (laid-rested (laid-moved b g t p) i h 0 m) q) 0 (lit< tt) t k w) r) 1 (lit< tt) t k v) r′ .is
+      laid-as (laid-backed (laid-as (laid-backed (laid-as (laid-rested (laid-moved b g t refl) i h 0 m) q) 0 (lit< tt) t k w) r) 1 (lit< tt) t k v) r′ .is
       ∙ (λ j. served b t (record {
         failures = two-of-four (λ u n. oneMore n) (eqb k 20) (factsOf b .services .failures) (l .failures) j;
         ends =

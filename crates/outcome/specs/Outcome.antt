@@ -17,6 +17,10 @@ rested b i x m = cond (eqb i 2) (set (set b (STANDING + i) x) MOOD m) (set b (ST
 abbrev pub checked : Facts → ℕ → Bool → ℕ → ℕ
 checked f t range i = check range 2 (check (timely f t) 3 (check (eqb (standing f i) 1) 4 0))
 
+-- the clock goes to t
+abbrev pub clocked : List ℕ → ℕ → List ℕ
+clocked b t = spread (moved t (factsOf b)) (rows (view b .lists))
+
 -- the clock goes to t, and the services become v
 abbrev pub served : List ℕ → ℕ → Services → List ℕ
 served b t v = spread (withServices (moved t (factsOf b)) v) (rows (view b .lists))

@@ -17,7 +17,7 @@ ghost use Rattle.buffer.specs.Places.{SIZE};
 ghost use Rattle.buffer.specs.Layout.{factsOf};
 ghost use Rattle.buffer.specs.Good.{good};
 ghost use Rattle.clock.specs.Call.{Says};
-ghost use Rattle.outcome.specs.Outcome.{rested, checked, served};
+ghost use Rattle.outcome.specs.Outcome.{rested, checked, clocked, served};
 
 // Whether a service stands at 1, asked.
 fn asked(s: &[u32], service: u32) -> bool
@@ -82,6 +82,17 @@ fn grant(s: &mut [u32], t: u32, i: usize)
     rest(s, i, up(i), 0);
 }
 
+// Time goes to t, and service i, which failed, is idle; m is service 2's mood.
+fn over(s: &mut [u32], t: u32, i: usize, m: u32)
+    requires { ⌜ length (now s) ≡ SIZE ⌝ }
+    requires { ⌜ good (now s) ≡ true ⌝ }
+    requires { ⌜ i < 4 ⌝ }
+    ensures { λ _. ⌜ now (s .exit) ≡ rested (clocked (now (s .entry)) t) i 0 m ⌝ }
+{
+    clock::advance(s, t);
+    rest(s, i, 0, m);
+}
+
 // Service i fails at t: n is the action, of itself alone, m service 2's mood.
 fn fail(s: &mut [u32], t: u32, i: usize, n: u32, m: u32) -> Answer
     requires { ⌜ length (now s) ≡ SIZE ⌝ }
@@ -92,8 +103,7 @@ fn fail(s: &mut [u32], t: u32, i: usize, n: u32, m: u32) -> Answer
     ensures { λ r. ⌜ now (s .exit) ≡ served (now (s .entry)) t (onFailed t i (eqb (r .number) 20) false m (factsOf (now (s .entry)))) ⌝ }
 {
     let a = backoff::failing(s, i, n);
-    clock::advance(s, t);
-    rest(s, i, 0, m);
+    over(s, t, i, m);
     backoff::back(s, t, i, a.number, a.second);
     a
 }
@@ -110,8 +120,7 @@ fn fail_both(s: &mut [u32], t: u32, i: usize, m: u32) -> Answer
     let a = backoff::failing(s, i, 20);
     let first = backoff::wait(s, 0);
     let other = backoff::wait(s, 1);
-    clock::advance(s, t);
-    rest(s, i, 0, m);
+    over(s, t, i, m);
     backoff::back(s, t, 0, a.number, first);
     backoff::back(s, t, 1, a.number, other);
     a

@@ -15,7 +15,7 @@ returns : tie.Need-returns
 unfolding both
 returns c =
     let a = c .before .args in
-    ap (λ (e : ℕ). eqb e 13) (c .entry .ensures) ∙ tells-both (printed (a .column) (a .cause) .action)
+    ap (λ (e : ℕ). eqb e 100) (c .entry .ensures) ∙ tells-both (printed (a .column) (a .cause) .action)
 
 pub both-spec : {M : Type 1} → statement M
 both-spec = tie.close (tie.spec entry-requires returns)

@@ -1,29 +1,18 @@
 -- `causes::cp` meets its contract. Assumes nothing.
-use mathlib.Core.Path.{_≡_, refl}
-use mathlib.Core.Bool.{Bool, true, false}
-use Prim.Native.Nat.{ℕ}
-use mathlib.Core.Logic.{_≢_}
-use native.Mathlib.Omega.{arith}
-use lib.Dec.{eqb}
-use borrow.Author.Tests.{eqb-true, eqb-false}
-use Rattle.rules.specs.Causes.{printed}
-use Rattle.causes.specs.Tables.{digitOf, packs}
-use Rattle.causes.proofs.Table.{no-digits}
+use mathlib.Core.Path.{refl}
+use Rattle.causes.proofs.Table.{acts}
+use borrow.Author.Needs.{needs}
 use Rattle.causes.proofs.cp.Statement.{statement}
 use Rattle.causes.proofs.cp.Tie as tie
 
+slice-aggregate-at : tie.Need-slice-aggregate-at
+slice-aggregate-at c = search needs
+
+at-requires : tie.Need-at-requires
+at-requires c κs = search needs
+
 returns : tie.Need-returns
-unfolding packs printed digitOf
-returns c = rw (c .if1 .taken) refl
-
--- the row before it has no digit either
-others : (row : ℕ) → row ≢ 1 → (b : Bool) → eqb row 0 ≡ b → packs 4 row 0 ≡ true
-unfolding packs printed digitOf
-others row h true e = rw (eqb-true row 0 e) refl
-others row h false e = no-digits 4 2 row (omega (arith, h, eqb-false row 0 e)) refl
-
-returns-2 : tie.Need-returns-2
-returns-2 c = let i = c .before .args .row in others i (c .if1 .left) (eqb i 0) refl
+returns c = acts 4 _ _ (c .at .ensures) refl
 
 pub cp-spec : {M : Type 1} → statement M
-cp-spec = tie.close (tie.spec returns returns-2)
+cp-spec = tie.close (tie.spec slice-aggregate-at at-requires returns)

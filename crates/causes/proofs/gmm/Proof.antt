@@ -1,22 +1,18 @@
 -- `causes::gmm` meets its contract. Assumes nothing.
 use mathlib.Core.Path.{refl}
-use native.Mathlib.Omega.{arith}
-use Rattle.rules.specs.Causes.{printed}
-use Rattle.causes.specs.Tables.{digitOf, packs}
-use Rattle.causes.proofs.Table.{no-digits}
+use Rattle.causes.proofs.Table.{acts}
+use borrow.Author.Needs.{needs}
 use Rattle.causes.proofs.gmm.Statement.{statement}
 use Rattle.causes.proofs.gmm.Tie as tie
 
+slice-aggregate-at : tie.Need-slice-aggregate-at
+slice-aggregate-at c = search needs
+
+at-requires : tie.Need-at-requires
+at-requires c κs = search needs
+
 returns : tie.Need-returns
-unfolding packs printed digitOf
-returns c = rw (c .if1 .taken) refl
-
-returns-2 : tie.Need-returns-2
-unfolding packs printed digitOf
-returns-2 c = rw (c .if2 .taken) refl
-
-returns-3 : tie.Need-returns-3
-returns-3 c = no-digits 1 2 (c .before .before .args .row) (omega arith) refl
+returns c = acts 1 _ _ (c .at .ensures) refl
 
 pub gmm-spec : {M : Type 1} → statement M
-gmm-spec = tie.close (tie.spec returns returns-2 returns-3)
+gmm-spec = tie.close (tie.spec slice-aggregate-at at-requires returns)

@@ -1,56 +1,36 @@
 -- `causes::letter` meets its contract. Assumes nothing.
-use mathlib.Core.Path.{refl}
 use native.Mathlib.Omega.{arith}
-use Rattle.rules.specs.Causes.{printed}
-use Rattle.causes.specs.Tables.{means}
-use Rattle.causes.proofs.Table.{errs, no-number}
+use Rattle.causes.proofs.Table.{no-number}
 use borrow.Author.Needs.{needs}
 use Rattle.causes.proofs.letter.Statement.{statement}
 use Rattle.causes.proofs.letter.Tie as tie
 
-slice-aggregate-at : tie.Need-slice-aggregate-at
-slice-aggregate-at c = search needs
-
-at-requires : tie.Need-at-requires
-at-requires c κs = search needs
+mm-error-requires : tie.Need-mm-error-requires
+mm-error-requires c κs = search needs
 
 returns : tie.Need-returns
-unfolding means
-returns c = rw (c .before .before .if1 .taken) (errs 0 _ _ (c .at .ensures) refl)
+returns c = rw (c .before .if1 .taken) (c .mm-error .ensures)
 
-slice-aggregate-at-2 : tie.Need-slice-aggregate-at-2
-slice-aggregate-at-2 c = search needs
-
-at-requires-2 : tie.Need-at-requires-2
-at-requires-2 c κs = search needs
+gmm-error-requires : tie.Need-gmm-error-requires
+gmm-error-requires c κs = search needs
 
 returns-2 : tie.Need-returns-2
-unfolding means
-returns-2 c = rw (c .before .before .if2 .taken) (errs 1 _ _ (c .at2 .ensures) refl)
+returns-2 c = rw (c .before .if2 .taken) (c .gmm-error .ensures)
 
-slice-aggregate-at-3 : tie.Need-slice-aggregate-at-3
-slice-aggregate-at-3 c = search needs
-
-at-requires-3 : tie.Need-at-requires-3
-at-requires-3 c κs = search needs
+sm-error-requires : tie.Need-sm-error-requires
+sm-error-requires c κs = search needs
 
 returns-3 : tie.Need-returns-3
-unfolding means
-returns-3 c = rw (c .before .before .if3 .taken) (errs 2 _ _ (c .at3 .ensures) refl)
+returns-3 c = rw (c .before .if3 .taken) (c .sm-error .ensures)
 
-slice-aggregate-at-4 : tie.Need-slice-aggregate-at-4
-slice-aggregate-at-4 c = search needs
-
-at-requires-4 : tie.Need-at-requires-4
-at-requires-4 c κs = search needs
+rp-error-requires : tie.Need-rp-error-requires
+rp-error-requires c κs = search needs
 
 returns-4 : tie.Need-returns-4
-unfolding means
-returns-4 c = rw (c .before .before .if4 .taken) (errs 3 _ _ (c .at4 .ensures) refl)
+returns-4 c = rw (c .before .if4 .taken) (c .rp-error .ensures)
 
 returns-5 : tie.Need-returns-5
-unfolding means
 returns-5 c = let a = c .before .before .before .before .args in no-number (a .column) (a .cause) (omega arith)
 
 pub letter-spec : {M : Type 1} → statement M
-letter-spec = tie.close (tie.spec slice-aggregate-at at-requires returns slice-aggregate-at-2 at-requires-2 returns-2 slice-aggregate-at-3 at-requires-3 returns-3 slice-aggregate-at-4 at-requires-4 returns-4 returns-5)
+letter-spec = tie.close (tie.spec mm-error-requires returns gmm-error-requires returns-2 sm-error-requires returns-3 rp-error-requires returns-4 returns-5)

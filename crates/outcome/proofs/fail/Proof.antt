@@ -16,16 +16,13 @@ use Rattle.outcome.proofs.fail.Tie as tie
 failing-requires : tie.Need-failing-requires
 failing-requires c κs = search needs
 
-advance-requires : tie.Need-advance-requires
-advance-requires c κs = search needs
-
-rest-requires : tie.Need-rest-requires
-rest-requires c κs = search needs
+over-requires : tie.Need-over-requires
+over-requires c κs = search needs
 
 back-requires : tie.Need-back-requires
 back-requires c κs =
-    let x = c .before .before .before .before .before .before .before .before .before .before .before .before in
-    let a = c .before .before .before .before .before .before .before .before .before .failing in
+    let x = c .before .before .before .before .before .before .before .before in
+    let a = c .before .before .before .before .before .failing in
     let h = x .pre .1 .1 in
     (search needs, (h .0, end-fits (x .args .s .now) (x .pre .1 .0) (x .args .t) (x .args .i) (x .args .n) (a .result) (a .ensures) (h .1)))
 
@@ -34,17 +31,15 @@ same-length c = search needs
 
 returns : tie.Need-returns
 returns c =
-    let x = c .before .before .before .before .before .before .before .before .before .before .before .before .before .before .before in
+    let x = c .before .before .before .before .before .before .before .before .before .before .before in
     let i : ℕ = x .args .i in
-    let a = c .before .before .before .before .before .before .before .before .before .before .before .before .failing in
+    let a = c .before .before .before .before .before .before .before .before .failing in
     let long : eqb (a .result .number) 20 ≡ true → a .result .second ≡ wait (factsOf (x .args .s .now)) i =
     λ e. ap (λ (y : Answer). y .second) (a .ensures) ∙ failed-wait (factsOf (x .args .s .now)) i (x .args .n) (rw (← a .ensures) e) in (
       a .ensures,
       fails (x .args .s .now) (x .pre .1 .0) (x .args .t) i (x .pre .1 .1 .0) (a .result .number) (x .args .m) (a .result .second) long
-          (c .before .before .before .before .before .before .before .before .before .before .advance .ensures) (c .before .before .before .before .before .before .rest .ensures) (c .before .before .back .ensures),
+          (c .before .before .before .before .before .before .over .ensures) (c .before .before .back .ensures),
     )
 
 pub fail-spec : {M : Type 1} → statement M
-fail-spec =
-    tie.close
-    (tie.spec failing-requires advance-requires rest-requires back-requires same-length returns)
+fail-spec = tie.close (tie.spec failing-requires over-requires back-requires same-length returns)

@@ -15,38 +15,36 @@ wait-requires c κs = search needs
 wait-requires-2 : tie.Need-wait-requires-2
 wait-requires-2 c κs = search needs
 
-advance-requires : tie.Need-advance-requires
-advance-requires c κs = search needs
-
-rest-requires : tie.Need-rest-requires
-rest-requires c κs = search needs
+over-requires : tie.Need-over-requires
+over-requires c κs = search needs
 
 back-requires : tie.Need-back-requires
 back-requires c κs =
-    let x = c .before .before .before .before .before .before .before .before .before .before .before .before .before .before .before .before in
+    let x = c .before .before .before .before .before .before .before .before .before .before .before .before in
     let h = x .pre .1 in
-    (search needs, (lit< tt, λ e. wait-fits (x .args .s .now) (h .0) (x .args .t) (h .1 .1) 0 (c .before .before .before .before .before .before .before .before .before .before .before .wait .ensures)))
+    (search needs, (lit< tt, λ e. wait-fits (x .args .s .now) (h .0) (x .args .t) (h .1 .1) 0 (c .before .before .before .before .before .before .before .wait .ensures)))
 
 back-requires-2 : tie.Need-back-requires-2
 back-requires-2 c κs =
-    let x = c .before .before .before .before .before .before .before .before .before .before .before .before .before .before .before .before .before .before .before .before in
+    let x = c .before .before .before .before .before .before .before .before .before .before .before .before .before .before .before .before in
     let h = x .pre .1 in
-    (search needs, (lit< tt, λ e. wait-fits (x .args .s .now) (h .0) (x .args .t) (h .1 .1) 1 (c .before .before .before .before .before .before .before .before .before .before .before .before .before .wait2 .ensures)))
+    (search needs, (lit< tt, λ e. wait-fits (x .args .s .now) (h .0) (x .args .t) (h .1 .1) 1 (c .before .before .before .before .before .before .before .before .before .wait2 .ensures)))
 
 same-length : tie.Need-same-length
 same-length c = search needs
 
 returns : tie.Need-returns
 returns c =
-    let x = c .before .before .before .before .before .before .before .before .before .before .before .before .before .before .before .before .before .before .before .before .before .before .before in
-    let a = c .before .before .before .before .before .before .before .before .before .before .before .before .before .before .before .before .before .before .before .before .failing in (
+    let x = c .before .before .before .before .before .before .before .before .before .before .before .before .before .before .before .before .before .before .before in
+    let a = c .before .before .before .before .before .before .before .before .before .before .before .before .before .before .before .before .failing in
+    let w = c .before .before .before .before .before .before .before .before .before .before .before .before .before .before .wait in
+    let v = c .before .before .before .before .before .before .before .before .before .before .before .before .wait2 in (
       a .ensures,
       fails-both (x .args .s .now) (x .pre .1 .0) (x .args .t) (x .args .i) (x .pre .1 .1 .0) (a .result .number) (x .args .m)
-          (c .before .before .before .before .before .before .before .before .before .before .before .before .before .before .before .before .before .before .wait .result) (c .before .before .before .before .before .before .before .before .before .before .before .before .before .before .before .before .wait2 .result) (c .before .before .before .before .before .before .before .before .before .before .before .before .before .before .before .before .before .before .wait .ensures) (c .before .before .before .before .before .before .before .before .before .before .before .before .before .before .before .before .wait2 .ensures)
-          (c .before .before .before .before .before .before .before .before .before .before .before .before .before .before .advance .ensures) (c .before .before .before .before .before .before .before .before .before .before .rest .ensures) (c .before .before .before .before .before .before .back .ensures) (c .before .before .back2 .ensures),
+          (w .result) (v .result) (w .ensures) (v .ensures) (c .before .before .before .before .before .before .before .before .before .before .over .ensures) (c .before .before .before .before .before .before .back .ensures) (c .before .before .back2 .ensures),
     )
 
 pub fail-both-spec : {M : Type 1} → statement M
 fail-both-spec =
     tie.close
-    (tie.spec failing-requires wait-requires wait-requires-2 advance-requires rest-requires back-requires back-requires-2 same-length returns)
+    (tie.spec failing-requires wait-requires wait-requires-2 over-requires back-requires back-requires-2 same-length returns)
