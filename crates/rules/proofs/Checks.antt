@@ -5,7 +5,7 @@ use mathlib.Core.Bool.{Bool, true, false, cond, _&&_, false≢true}
 use mathlib.Core.List.{List, [], _++_, append-nil}
 use mathlib.Core.Logic.{_≢_}
 use lib.Dec.{leb, eqb}
-use borrow.Author.Tests.{leb-true, le-leb, eqb-false, eqb-true, eq-eqb, ne-eqb}
+use borrow.Author.Tests.{leb-true, le-leb, eqb-false, eqb-true, ne-eqb}
 use native.Mathlib.Omega.{arith}
 use Rattle.rules.specs.declared.Answer.{Answer}
 use Rattle.rules.specs.Calls.{Outcome, Event, ask, outcome, dropped, tick, granted, silent, rejected, nfm, nfm-start, intervals, query, bad, Call, timed, typed, answer}

@@ -1,7 +1,7 @@
 -- The four services' numbers and the six counters as lists: what a store changes. Assumes nothing.
 use Prim.Native.Nat.{ℕ, zero, suc, _+_, min, _≤_}
 use mathlib.Core.Path.{_≡_, refl, ap, _∙_}
-use mathlib.Core.Bool.{Bool, true, false, cond, _&&_}
+use mathlib.Core.Bool.{Bool, true, false, cond}
 use lib.ListN.{getD, set}
 use lib.Dec.{leb, eqb}
 use borrow.Author.Tests.{ne-eqb}

@@ -1,14 +1,16 @@
 -- Document 01's idle versions, over one record: S1 is 1, an SMS was permitted at 0 and granted at
 -- 1. Whoever always permits, always blocks, never backs off, or answers as if nothing had been
--- called yet, does not keep the sentences of demand 3. Assumes nothing.
+-- called yet, does not keep the sentences of demand 3; nor does who holds the rejected registration
+-- alone where both must be. Assumes nothing.
 use Prim.Native.Nat.{ℕ, _≤_}
 use mathlib.Core.Path.{_≡_, refl, ap}
 use mathlib.Core.List.{List, [], _∷_}
 use mathlib.Core.Logic.{inl, inr, _≢_}
 use native.Mathlib.Omega.{arith}
 use Rattle.rules.specs.declared.Answer.{Answer}
-use Rattle.rules.specs.Calls.{Opening, ask, outcome, granted, silent, Call, timed, Entry, entry, answer}
-use Rattle.rules.specs.Tables.{within, sms}
+use Rattle.rules.specs.Calls.{Opening, ask, outcome, granted, silent, rejected, Call, timed, Entry, entry, answer}
+use Rattle.rules.specs.Causes.{printed, action, both}
+use Rattle.rules.specs.Tables.{within, sms, waitFor}
 use Rattle.rules.specs.State.{State, fresh}
 use Rattle.rules.specs.Record.{lastTime, nfmNow, startNow, intervalsNow, permits, inARow, failures, backOffEnd, standing, mood, counter}
 use Rattle.rules.specs.Rules.{limits, blocks, inRange, stands, refusal, runs, verdict, ruling}
@@ -71,3 +73,11 @@ never-backs-off next never d =
   where
     accepted : Accepted g asked 1 (outcome 3 silent)
     accepted = record { in-range = omega arith; in-time = record { not-below = omega arith; not-above = omega arith }; fits = refl }
+
+-- GPRS registration was rejected with GMM 8, which is for both
+abbrev pub refused-both : List Entry
+refused-both = entry (timed 1 (outcome 1 (rejected 8 0 1))) (answer 20 60) ∷ entry (timed 0 (ask 1)) (answer 0 0) ∷ []
+
+pub holds-one : (next : Call → Answer) → next (timed 2 (ask 0)) .number ≡ 0 → Direct g refused-both next → ⊥
+unfolding fresh nfmNow intervalsNow inARow failures backOffEnd printed action both waitFor
+holds-one next e d = omega (arith, d .no-permit-in-back-off 2 0 e (omega arith))

@@ -1,12 +1,12 @@
 -- Whom a back-off reaches: the service itself, and on a row for both registrations services 0 and 1;
 -- such rows stand in their columns alone. Assumes nothing.
-use Prim.Native.Nat.{ℕ, zero, suc, _+_, min, _≤_}
-use mathlib.Core.Path.{_≡_, refl, sym, ap, _∙_}
+use Prim.Native.Nat.{ℕ, suc, _+_, min, _≤_}
+use mathlib.Core.Path.{_≡_, refl, sym, _∙_}
 use mathlib.Core.Bool.{Bool, true, false, cond, not, _&&_, false≢true}
 use mathlib.Core.List.{List, [], _∷_}
 use lib.Dec.{leb, eqb}
 use lib.ListN.{getD}
-use borrow.Author.Tests.{leb-true, le-leb, eqb-true, eqb-false, eq-eqb, ne-eqb}
+use borrow.Author.Tests.{leb-true, le-leb, eqb-true, eq-eqb}
 use native.Mathlib.Omega.{arith}
 use Rattle.rules.specs.declared.Answer.{Answer}
 use Rattle.rules.specs.Calls.{Outcome, outcome, granted, silent, rejected, timed, Entry, entry}
@@ -14,7 +14,7 @@ use Rattle.rules.specs.Causes.{Row, columns, rowOf, printed, ofBoth, bot
 use Rattle.rules.specs.Tables.{waitFor}
 use Rattle.rules.specs.State.{State}
 use Rattle.rules.specs.Record.{nfmNow, intervalsNow, toBackOff, forBoth, inARow, failures, backOffEnd}
-use Rattle.rules.specs.Direct.{Has, MM, GMM, SM, RP, CP, InRange, Accepted, BacksOff, backs-off, nextWait, Reached, itself, registration}
+use Rattle.rules.specs.Direct.{Has, MM, GMM, SM, RP, CP, InRange, BacksOff, backs-off, nextWait, Reached, itself, registration}
 use Rattle.rules.proofs.Checks.{and-left, and-right}
 use Rattle.rules.proofs.Accepting.{not-true}
 use Rattle.rules.proofs.Groups.{end-more}

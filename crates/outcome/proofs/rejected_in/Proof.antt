@@ -1,5 +1,5 @@
 -- `outcome::rejected_in` meets its contract. Assumes nothing.
-use mathlib.Core.Path.{refl, sym, _∙_}
+use mathlib.Core.Path.{sym, _∙_}
 use lib.Dec.{leb}
 use Rattle.rules.specs.declared.Event.the-variants.{Outcome as outcome}
 use Rattle.rules.specs.declared.Outcome.the-variants.{Rejected as rejected}
