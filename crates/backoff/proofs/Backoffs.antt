@@ -15,11 +15,11 @@ use Rattle.rules.specs.State.{Facts, Services, withServices}
 use Rattle.rules.proofs.Checks.{failed-wait}
 use Rattle.buffer.specs.Places.{QUOTIENT, REMAINDER, COUNT, INTERVALS, FAILURES}
 use Rattle.buffer.specs.Segments.{part}
-use Rattle.buffer.specs.Layout.{factsOf, view}
+use Rattle.buffer.specs.Layout.{factsOf}
 use Rattle.buffer.specs.Good.{good}
-use Rattle.buffer.proofs.Goodness.{byte-low, good-shape, interval-count, valid-view}
+use Rattle.buffer.proofs.Goodness.{byte-low, good-shape, interval-count}
 use Rattle.buffer.proofs.Segments.{part-at}
-use Rattle.buffer.proofs.Sane.{Sane, valid-facts}
+use Rattle.buffer.proofs.Sane.{good-sane}
 use Rattle.buffer.proofs.Keep.{interval-range, wait-low}
 use Rattle.buffer.proofs.Laid.{Laid, laid-failures, laid-end, failures-at}
 use Rattle.backoff.specs.declared.Backoff.{Backoff}
@@ -56,18 +56,15 @@ module _ {b : List ℕ} {f : Facts} {rs : List (List ℕ)} (l : Laid b f rs) (i 
 
 -- ---- The wait
 
-sane-of : (b : List ℕ) → good b ≡ true → Sane (factsOf b)
-sane-of b g = valid-facts (view b) (valid-view b g) .sane
-
 pub base-range : (b : List ℕ) → good b ≡ true → (n : ℕ)
     → (1 ≤ interval (factsOf b .mode .intervals) (oneMore n)) × (interval (factsOf b .mode .intervals) (oneMore n) ≤ 65535)
-base-range b g n = interval-range (factsOf b) (sane-of b g) (oneMore n) (omega arith)
+base-range b g n = interval-range (factsOf b) (good-sane b g) (oneMore n) (omega arith)
 
 -- where the interval of one failure more than n stands, of m intervals
 module _ (b : List ℕ) (g : good b ≡ true) (n m : ℕ) (e : m ≡ getD b COUNT 0) where
   pub count-range : (1 ≤ m) × (m ≤ 10)
   unfolding factsOf
-  count-range = let q = interval-count b (good-shape b g) in (omega (arith, sane-of b g .mode .some), omega (arith, sane-of b g .mode .few))
+  count-range = let q = interval-count b (good-shape b g) in (omega (arith, good-sane b g .mode .some), omega (arith, good-sane b g .mode .few))
 
   pub interval-next : n < m → getD b (INTERVALS + n) 0 ≡ interval (factsOf b .mode .intervals) (oneMore n)
   unfolding factsOf
@@ -86,11 +83,7 @@ module _ (b : List ℕ) (g : good b ≡ true) (n m : ℕ) (e : m ≡ getD b COUN
 -- what it is drawn from fits
 pub failures-low : (b : List ℕ) → good b ≡ true → (i : ℕ) → i < 4 → {n : ℕ} → n ≡ getD b (FAILURES + i) 0 → n ≤ 255
 unfolding factsOf
-failures-low b g i h u = rw u (byte-low b FAILURES 4 (sane-of b g .services .failures) i h)
-
-pub imsi-low : (b : List ℕ) → good b ≡ true → {m : ℕ} → m ≡ getD b QUOTIENT 0 * 2 ^ 32 + getD b REMAINDER 0 → m < 2 ^ 60
-unfolding factsOf
-imsi-low b g v = omega (arith, sane-of b g .opening .imsi)
+failures-low b g i h u = rw u (byte-low b FAILURES 4 (good-sane b g .services .failures) i h)
 
 -- the wait, by the places
 pub waits : (b : List ℕ) (i : ℕ) → i < 4 → {r p x n m : ℕ} → n ≡ getD b (FAILURES + i) 0 → m ≡ getD b QUOTIENT 0 * 2 ^ 32 + getD b REMAINDER 0
@@ -105,7 +98,7 @@ waits b i h {n = n} u v e k d =
 
 -- the end of a wait fits a place
 pub wait-fits : (b : List ℕ) → good b ≡ true → (t : ℕ) → t ≤ highestTime → (i : ℕ) {w : ℕ} → w ≡ wait (factsOf b) i → t + w < 4294967296
-wait-fits b g t late i e = omega (arith, e, wait-low (factsOf b) i (sane-of b g))
+wait-fits b g t late i e = omega (arith, e, wait-low (factsOf b) i (good-sane b g))
 
 pub end-fits : (b : List ℕ) → good b ≡ true → (t i n : ℕ) (a : Answer) → a ≡ failed (factsOf b) i n → t ≤ highestTime → a .number ≡ 20 → t + a .second < 4294967296
 end-fits b g t i n a e late k =

@@ -133,6 +133,7 @@ module _ (b : List ℕ) (h : Shape b) where
       ∷ part b 44 6
       ∷ counts-part i
       ∷ rows-part i
+      ∷ spelt 1330 1 (lit≤ tt) i
       ∷ []
 
   pub lay-view : lay (view b) ≡ b

@@ -17,8 +17,8 @@ use Rattle.rules.specs.declared.Outcome.the-variants.{Granted as granted, Silen
 use Rattle.mixing.specs.Mixing.{drawn}
 use Rattle.rules.specs.Causes.{action, both, reaches}
 use Rattle.rules.specs.Tables.{highestTime, Kind, among, counting, moodOn, oneMore, interval, waitFor, ascending, scheduled, four}
-use Rattle.rules.specs.Rules.{check, refusal, wait, failed, verdict, ruling, refused, moved, raised, counted, asked, onGranted, onFailed, onOutcome, acted, switched, obeyed, changed, enters, adds, learn, newest, short, step}
-use Rattle.rules.specs.State.{State, Facts, Services, withCounters, withServices, withStanding, idle}
+use Rattle.rules.specs.Rules.{check, refusal, wait, failed, verdict, ruling, refused, moved, raised, counted, asked, onGranted, onFailed, onOutcome, dueOn, acted, switched, obeyed, changed, enters, adds, learn, newest, short, step}
+use Rattle.rules.specs.State.{State, Facts, Services, withCounters, withServices, withDue, withStanding, idle}
 use Rattle.rules.proofs.Checks.{accepted, on-time, in-time, passed-verdict, refused-adds, failed-backs}
 use Rattle.rules.proofs.Newest.{changed-keeps}
 use Rattle.buffer.specs.Good.{atMost, zeros, bytes, highestEnd, valid}
@@ -307,10 +307,10 @@ counted-sane n l h = go (among n counting)
     go true = up (n - 11)
     go false = h
 
--- other counters and services
-with-sane : (f : Facts) (l : List ℕ) (v : Services) → Sane f → SaneCounters l → SaneServices (f .mode .nfm) v
-    → Sane (withServices (withCounters f l) v)
-with-sane f l v s c h = record { opening = s .opening; mode = s .mode; late = s .late; early = s .early; counters = c; services = h }
+-- other counters and services, and any due time
+with-sane : (f : Facts) (l : List ℕ) (v : Services) (d : ℕ) → Sane f → SaneCounters l → SaneServices (f .mode .nfm) v
+    → Sane (withDue (withServices (withCounters f l) v) d)
+with-sane f l v d s c h = record { opening = s .opening; mode = s .mode; late = s .late; early = s .early; counters = c; services = h }
 
 -- ---- The wait is at most 131,069
 
@@ -338,27 +338,33 @@ unfolding moodOn
 mood-on cause = cond-le (among cause (8 ∷ 27 ∷ 28 ∷ 29 ∷ 32 ∷ 33 ∷ [])) 2 3 3 (omega arith) (omega arith)
 
 acted-sane : (v : State) (t : ℕ) (e : Event) → Sane (v .facts) → v .facts .last ≤ t → t ≤ highestTime → (a : Answer) → a ≡ verdict v (timed t e) → Sane (acted t e a (moved t (v .facts)))
-unfolding acted onOutcome verdict
+unfolding acted onOutcome dueOn asked verdict
 acted-sane v t e h p g a d = go e d
   where
     m : Sane (moved t (v .facts))
     m = moved-sane (v .facts) t h p g
 
-    served : (u : Services) → SaneServices (moved t (v .facts) .mode .nfm) u
-        → Sane (withServices (moved t (v .facts)) u)
-    served u w = with-sane (moved t (v .facts)) (moved t (v .facts) .counters) u m (m .counters) w
+    served : (u : Services) (d : ℕ) → SaneServices (moved t (v .facts) .mode .nfm) u
+        → Sane (withDue (withServices (moved t (v .facts)) u) d)
+    served u d w = with-sane (moved t (v .facts)) (moved t (v .facts) .counters) u d m (m .counters) w
+
+    -- a permit of request q, or a reset that is ordered
+    sends : (q : ℕ) (b : Bool) (d : ℕ)
+        → Sane (withDue (withServices (withCounters (moved t (v .facts)) (counted (a .number) (moved t (v .facts) .counters)))
+        (withStanding (moved t (v .facts) .services) (cond b (asked q (moved t (v .facts) .services .standing)) (moved t (v .facts) .services .standing)))) d)
+    sends q b d = with-sane (moved t (v .facts)) _ _ d m (counted-sane (a .number) _ (m .counters)) (asked-sane _ _ (m .services) q b)
 
     ends : (u : ℕ) → t + wait (moved t (v .facts)) u ≤ highestEnd
     ends u = omega (arith, wait-low (moved t (v .facts)) u m)
 
     go : (e : Event) → a ≡ verdict v (timed t e) → Sane (acted t e a (moved t (v .facts)))
-    go (ask q) d = with-sane (moved t (v .facts)) _ _ m (counted-sane (a .number) _ (m .counters)) (asked-sane _ _ (m .services) q (eqb (a .number) 0))
-    go (outcome s granted) d = served _ (granted-sane _ _ s (m .services))
-    go (outcome s silent) d = served _ (failed-sane (moved t (v .facts)) t s _ false 1 (m .services) (omega arith) (on-backs (v .facts) t s 20 a d) ends)
+    go (ask q) d = sends q (eqb (a .number) 0) _
+    go (outcome s granted) d = served _ _ (granted-sane _ _ s (m .services))
+    go (outcome s silent) d = served _ _ (failed-sane (moved t (v .facts)) t s _ false 1 (m .services) (omega arith) (on-backs (v .facts) t s 20 a d) ends)
     go (outcome s (rejected cause second column)) d =
-        served _ (failed-sane (moved t (v .facts)) t s _ (both column cause) (moodOn cause) (m .services) (mood-on cause) (on-backs (v .facts) t s (action column cause second) a d) ends)
-    go dropped d = served _ (stands-low _ _ (m .services) 2 0 (omega arith))
-    go tick d = m
+        served _ _ (failed-sane (moved t (v .facts)) t s _ (both column cause) (moodOn cause) (m .services) (mood-on cause) (on-backs (v .facts) t s (action column cause second) a d) ends)
+    go dropped d = served _ (moved t (v .facts) .due) (stands-low _ _ (m .services) 2 0 (omega arith))
+    go tick d = sends 5 (eqb (a .number) 12) _
 
 -- ---- AT lines
 

@@ -7,8 +7,8 @@ use native.Mathlib.Omega.{arith}
 use lib.Dec.{lit<}
 use lib.ListN.{length, getD, set, length-set}
 use Rattle.rules.specs.Rules.{newest}
-use Rattle.rules.specs.State.{Facts, withLast, withMode, withCounters, withServices, idle}
-use Rattle.buffer.specs.Places.{LAST, NFM, START, COUNT, INTERVALS, FAILURES, ENDS, STANDING, MOOD, COUNTERS}
+use Rattle.rules.specs.State.{Facts, withLast, withMode, withCounters, withServices, withDue, idle}
+use Rattle.buffer.specs.Places.{LAST, NFM, START, COUNT, INTERVALS, FAILURES, ENDS, STANDING, MOOD, COUNTERS, DUE}
 use Rattle.buffer.specs.Segments.{concat, pad, paste}
 use Rattle.buffer.specs.Layout.{widths, segments, spread, rows, factsOf, view}
 use Rattle.buffer.specs.Good.{Shape, good}
@@ -109,6 +109,10 @@ module _ {b : List ℕ} {f : Facts} {rs : List (List ℕ)} (l : Laid b f rs) whe
   pub laid-counter : (i a : ℕ) → i < 6 → Laid (set b (COUNTERS + i) a) (withCounters f (set (f .counters) i a)) rs
   unfolding spread segments
   laid-counter i a h = record { shaped = same-shape _ refl refl refl refl (length-set (f .counters) i a); is = rw (l .is) (put f rs (l .shaped) 14 i a h) }
+
+  pub laid-due : (a : ℕ) → Laid (set b DUE a) (withDue f a) rs
+  unfolding spread segments
+  laid-due a = record { shaped = same-shape _ refl refl refl refl refl; is = rw (l .is) (put f rs (l .shaped) 17 0 a (lit< tt)) }
 
   -- other intervals, and their number
   pub laid-intervals : (x : List ℕ) → length x ≤ 10

@@ -87,6 +87,7 @@ module _ (f : Facts) (rs : List (List ℕ)) (s : Shaped f rs) where
       ∷ s .counters i
       ∷ (length-map rs length ∙ s .five) i
       ∷ rows-length i
+      ∷ 1
       ∷ []
 
   pub length-lay : length (spread f rs) ≡ SIZE
@@ -106,7 +107,7 @@ module _ (f : Facts) (rs : List (List ℕ)) (s : Shaped f rs) where
   unfolding spread
   put = set-seg (segments f rs) widths sizes
 
-  pub fill : (k i : ℕ) (y : List ℕ) → i + length y ≤ getD widths k 0 → k < 17
+  pub fill : (k i : ℕ) (y : List ℕ) → i + length y ≤ getD widths k 0 → k < 18
       → paste (spread f rs) (off widths k + i) y ≡ concat (set (segments f rs) k (paste (getD (segments f rs) k []) i y))
   unfolding spread
   fill = paste-seg (segments f rs) widths sizes
@@ -212,6 +213,7 @@ module _ (f : Facts) (rs : List (List ℕ)) (s : Shaped f rs) where
           standing = all-of 12 (f .services .standing) refl (s .standing) i;
           mood = get 13 0 (lit< tt) i;
         };
+        due = get 17 0 (lit< tt) i;
       }
 
 -- five lists, by their places

@@ -2,7 +2,7 @@
 use mathlib.Core.Path.{_≡_, refl}
 use mathlib.Core.Bool.{Bool, true, false, cond, not, _&&_, _||_, true≢false}
 use mathlib.Core.List.{List, [], map}
-use Prim.Native.Nat.{ℕ, zero, suc, _≤_}
+use Prim.Native.Nat.{ℕ, zero, suc, _+_, _*_, _^_, _≤_, _<_}
 use native.Mathlib.Omega.{arith}
 use lib.Dec.{leb, eqb}
 use lib.ListN.{length, getD, List·getD-eq-default}
@@ -10,12 +10,13 @@ use borrow.Author.Tests.{leb-true, le-leb, eqb-true, eq-eqb}
 use Rattle.rules.specs.Calls.{Opening}
 use Rattle.rules.specs.Tables.{highestTime, Kind, attach, activation, pdp, sms, reset}
 use Rattle.rules.specs.State.{State, Facts, Mode, Services}
-use Rattle.buffer.specs.Layout.{rows, place}
-use Rattle.buffer.specs.Good.{every, atMost, zeros, bytes, highestEnd, parameters, house, rates, times-good, imsi-good, flags-good, count-good, intervals-good, ends-good, standing-good, mood-good, list-good, fits, values, valid}
+use Rattle.buffer.specs.Places.{QUOTIENT, REMAINDER}
+use Rattle.buffer.specs.Layout.{rows, place, factsOf, view}
+use Rattle.buffer.specs.Good.{every, atMost, zeros, bytes, highestEnd, parameters, house, rates, times-good, imsi-good, flags-good, count-good, intervals-good, ends-good, standing-good, mood-good, list-good, good, fits, values, valid}
 use Rattle.rules.proofs.Checks.{and-left, and-right}
 use Rattle.buffer.proofs.Tests.{pick, passed}
 use Rattle.buffer.proofs.Laying.{Shaped, at-place}
-use Rattle.buffer.proofs.Goodness.{both-true, shaped-valid, fits-shaped}
+use Rattle.buffer.proofs.Goodness.{both-true, shaped-valid, fits-shaped, valid-view}
 
 pub record SaneOpening (o : Opening) : Type 0 where
   pub imsi : o .imsi ≤ 999999999999999
@@ -251,3 +252,13 @@ facts-valid v h =
     both-true (fits-shaped v shaped)
     (passed (values v)
     (times-of f s, (imsi-of f s, (flags-of f s, (count-of f s, (s .mode .rising, (s .opening .parameters, (s .opening .house, (s .opening .rates, (s .services .failures, (ends-of f s, (standing-of f s, (mood-of f s, (s .counters .small, (lists, tt)))))))))))))))
+
+-- ---- What a good buffer holds
+
+pub good-sane : (b : List ℕ) → good b ≡ true → Sane (factsOf b)
+good-sane b g = valid-facts (view b) (valid-view b g) .sane
+
+-- a card draws from an IMSI of 50 bits
+pub imsi-low : (b : List ℕ) → good b ≡ true → {m : ℕ} → m ≡ getD b QUOTIENT 0 * 2 ^ 32 + getD b REMAINDER 0 → m < 2 ^ 60
+unfolding factsOf
+imsi-low b g v = omega (arith, good-sane b g .opening .imsi)

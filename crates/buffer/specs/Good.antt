@@ -127,7 +127,7 @@ lines b =
 abbrev pub goodAs : (size version : ℕ) → List ℕ → Bool
 goodAs n v b = eqb (length b) n && eqb (getD b VERSION 0) v && every (lines b)
 
--- and of this one: 1,330 numbers
+-- and of this one: 1,331 numbers; any due time is good
 unfoldable pub good : List ℕ → Bool
 good b = goodAs SIZE CURRENT b
 

@@ -1,11 +1,12 @@
--- Document 01's table: the 1,330 numbers of a state, and the state that 1,330 numbers hold. Assumes nothing.
+-- Document 01's table, and the due time at its end: the 1,331 numbers of a state, and the state that
+-- 1,331 numbers hold. Assumes nothing.
 use Prim.Native.Nat.{ℕ, _+_, _*_, _/_, _%_, _^_}
 use mathlib.Core.List.{List, [], _∷_, map}
 use lib.ListN.{length, getD}
 use Rattle.rules.specs.Tables.{Kind, attach, activation, pdp, sms, reset}
 use Rattle.rules.specs.State.{State, Facts}
 use Rattle.buffer.specs.Segments.{concat, part, pad}
-use Rattle.buffer.specs.Places.{CURRENT, OPENED, LAST, QUOTIENT, REMAINDER, NFM, START, RPM, COUNT, INTERVALS, PARAMETERS, HOUSE, RATES, FAILURES, ENDS, STANDING, MOOD, COUNTERS, LENGTHS, LISTS}
+use Rattle.buffer.specs.Places.{CURRENT, OPENED, LAST, QUOTIENT, REMAINDER, NFM, START, RPM, COUNT, INTERVALS, PARAMETERS, HOUSE, RATES, FAILURES, ENDS, STANDING, MOOD, COUNTERS, LENGTHS, LISTS, DUE}
 
 -- letters WRP
 abbrev pub letters : ℕ
@@ -46,10 +47,11 @@ segments f rs =
     ∷ f .counters  -- 44-49
     ∷ map length rs  -- 50-54
     ∷ concat (map (pad 255) rs)  -- 55-1329
+    ∷ (f .due ∷ [])  -- 1330
     ∷ []
 
 abbrev pub widths : List ℕ
-widths = 1 ∷ 1 ∷ 2 ∷ 2 ∷ 3 ∷ 1 ∷ 10 ∷ 6 ∷ 2 ∷ 3 ∷ 4 ∷ 4 ∷ 4 ∷ 1 ∷ 6 ∷ 5 ∷ 1275 ∷ []
+widths = 1 ∷ 1 ∷ 2 ∷ 2 ∷ 3 ∷ 1 ∷ 10 ∷ 6 ∷ 2 ∷ 3 ∷ 4 ∷ 4 ∷ 4 ∷ 1 ∷ 6 ∷ 5 ∷ 1275 ∷ 1 ∷ []
 
 -- facts and five lists, laid out
 unfoldable pub spread : Facts → List (List ℕ) → List ℕ
@@ -86,6 +88,7 @@ factsOf b = record {
   last = getD b LAST 0;
   counters = part b COUNTERS 6;
   services = record { failures = part b FAILURES 4; ends = part b ENDS 4; standing = part b STANDING 4; mood = getD b MOOD 0 };
+  due = getD b DUE 0;
 }
 
 abbrev pub view : List ℕ → State

@@ -3,17 +3,17 @@
 -- Assumes nothing.
 use Prim.Native.Nat.{ℕ}
 
--- 1,330 numbers
+-- 1,331 numbers
 abbrev pub SIZE : ℕ
-SIZE = 1330
+SIZE = 1331
 
 -- four bytes for each
 abbrev pub BYTES : ℕ
-BYTES = 5320
+BYTES = 5324
 
 -- the version of this table; the places of the first version stand in front in every version
 abbrev pub CURRENT : ℕ
-CURRENT = 1
+CURRENT = 2
 
 abbrev pub BASE : ℕ
 BASE = 1330
@@ -98,3 +98,7 @@ LISTS = 55
 
 abbrev pub ROOM : ℕ
 ROOM = 255
+
+-- 1330: due time of the timed reset; 0 is none
+abbrev pub DUE : ℕ
+DUE = 1330

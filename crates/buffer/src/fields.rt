@@ -1,5 +1,6 @@
-// Readers and writers of single places and of one place of a group. They only know where a number stands; each asks for a buffer of
-// 1,330 places, which every call has seen to before, and for a place inside its group.
+// Readers and writers of single places and of one place of a group. They only know where a number
+// stands; each asks for a buffer of 1,331 places, which every call has seen to before, and for a
+// place inside its group.
 use crate::places as at;
 ghost use mathlib.Core.Path.{_≡_};
 ghost use Prim.Native.Nat.{_+_, _*_, _≤_, _<_, _^_};
@@ -9,6 +10,7 @@ ghost use Rattle.buffer.specs.Places.{
   BASE,
   COUNT,
   COUNTERS,
+  DUE,
   ENDS,
   FAILURES,
   INTERVALS,
@@ -131,6 +133,14 @@ pub fn counter(s: &[u32], i: usize) -> u32
     s[at::COUNTERS + i]
 }
 
+// The due time of the timed reset; 0 is none.
+pub fn due(s: &[u32]) -> u32
+    requires { ⌜ length (now s) ≡ SIZE ⌝ }
+    ensures { λ r. ⌜ r ≡ getD (now (s .entry)) DUE 0 ⌝ }
+{
+    s[at::DUE]
+}
+
 // Stores the last time.
 pub fn set_last(s: &mut [u32], x: u32)
     requires { ⌜ length (now s) ≡ SIZE ⌝ }
@@ -205,4 +215,12 @@ pub fn set_counter(s: &mut [u32], i: usize, x: u32)
     ensures { λ _. ⌜ now (s .exit) ≡ set (now (s .entry)) (COUNTERS + i) x ⌝ }
 {
     s[at::COUNTERS + i] = x;
+}
+
+// Stores the due time.
+pub fn set_due(s: &mut [u32], x: u32)
+    requires { ⌜ length (now s) ≡ SIZE ⌝ }
+    ensures { λ _. ⌜ now (s .exit) ≡ set (now (s .entry)) DUE x ⌝ }
+{
+    s[at::DUE] = x;
 }

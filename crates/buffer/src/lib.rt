@@ -1,4 +1,4 @@
-// The buffer: document 01's table of 1,330 places, and everything that knows a place's number.
+// The buffer: document 01's table, of 1,331 places now, and everything that knows a place's number.
 // `fields` reads and writes single places and groups of them, `lists` adds to and asks of the five
 // lists of permit times.
 //

@@ -1,12 +1,12 @@
 // The places of document 01's table, by name: the same names and numbers as in specs/Places.antt. No other file has a place's number.
 
-// 1,330 numbers
-pub const SIZE: usize = 1330;
+// 1,331 numbers
+pub const SIZE: usize = 1331;
 // four bytes for each
-pub const BYTES: usize = 5320;
+pub const BYTES: usize = 5324;
 
 // The version of this table.
-pub const CURRENT: u32 = 1;
+pub const CURRENT: u32 = 2;
 // The places of the first version stand in front in every version.
 pub const BASE: usize = 1330;
 // 0: letters WRP
@@ -53,3 +53,5 @@ pub const LENGTHS: usize = 50;
 pub const LISTS: usize = 55;
 
 pub const ROOM: usize = 255;
+// 1330: due time of the timed reset; 0 is none
+pub const DUE: usize = 1330;

@@ -1,24 +1,20 @@
--- The clock and the leaks, on a buffer that is laid out; the clock call. Assumes nothing.
-use mathlib.Core.Path.{_≡_, refl, sym, _∙_, subst}
-use mathlib.Core.Bool.{true, false}
+-- The clock and the leaks, on a buffer that is laid out. Assumes nothing.
+use mathlib.Core.Path.{_≡_, refl, subst}
+use mathlib.Core.Bool.{true}
 use mathlib.Core.List.{List, [], _∷_}
 use Prim.Native.Nat.{ℕ, zero, suc, _+_, _-_, _≤_, _<_}
 use native.Mathlib.Omega.{arith}
 use lib.Dec.{lit<}
 use lib.ListN.{length, getD, set}
-use Rattle.rules.specs.Calls.{timed, answer}
-use Rattle.rules.specs.declared.Event.the-variants.{Tick as tick}
-use Rattle.rules.specs.Rules.{timely, inRange, stands, refusal, verdict, ruling, points, moved, acted, changed, enters, adds}
+use Rattle.rules.specs.Rules.{points, moved}
 use Rattle.rules.specs.State.{Facts, withCounters}
 use Rattle.buffer.specs.Places.{LAST, RATES, COUNTERS}
 use Rattle.buffer.specs.Layout.{spread, rows, factsOf, view}
 use Rattle.buffer.specs.Good.{good, rates}
-use Rattle.buffer.proofs.Goodness.{at-most, valid-view}
-use Rattle.buffer.proofs.Sane.{valid-facts}
+use Rattle.buffer.proofs.Goodness.{at-most}
+use Rattle.buffer.proofs.Sane.{good-sane}
 use Rattle.buffer.proofs.Laid.{Laid, laid-good, laid-as, laid-last, laid-counter, counter-at}
-use Rattle.clock.specs.Call.{Says}
 use Rattle.clock.specs.Clock.{dueOf, drained, leaked}
-use Rattle.clock.proofs.Saying.{says-good, says-refused, moves}
 
 -- the leak rates of a good buffer are bytes
 pub rate-low : (b : List ℕ) → good b ≡ true → (i : ℕ) → i < 3 → getD b (RATES + i) 0 ≤ 255
@@ -26,7 +22,7 @@ unfolding factsOf
 rate-low b g i h = go i h
   where
     at : (i : ℕ) → getD (rates (factsOf b .opening)) i 0 ≤ 255
-    at = at-most 255 (rates (factsOf b .opening)) (valid-facts (view b) (valid-view b g) .sane .opening .rates)
+    at = at-most 255 (rates (factsOf b .opening)) (good-sane b g .opening .rates)
 
     go : (i : ℕ) → i < 3 → getD b (RATES + i) 0 ≤ 255
     go zero h = at 0
@@ -79,21 +75,3 @@ laid-moved b g t e =
       shaped = record { intervals = s .intervals; failures = s .failures; ends = s .ends; standing = s .standing; counters = refl; five = s .five; short = s .short };
       is = e;
     }
-
--- ---- The clock call
-
-module _ (b : List ℕ) (g : good b ≡ true) (t : ℕ) where
-  tick-late : timely (factsOf b) t ≡ false → ruling (view b) (timed t tick) ≡ answer 3 0
-  unfolding ruling refusal inRange stands
-  tick-late h = rw h
-
-  tick-done : timely (factsOf b) t ≡ true → ruling (view b) (timed t tick) ≡ answer 0 0
-  unfolding ruling refusal inRange stands verdict
-  tick-done h = rw h
-
-  pub ticks-late : timely (factsOf b) t ≡ false → Says b (timed t tick) (answer 3 0) b
-  ticks-late h = says-refused b g (timed t tick) (answer 3 0) (tick-late h) refl
-
-  pub ticks : {x : List ℕ} → timely (factsOf b) t ≡ true → x ≡ spread (moved t (factsOf b)) (rows (view b .lists)) → Says b (timed t tick) (answer 0 0) x
-  unfolding changed acted adds enters
-  ticks h e = says-good b g (timed t tick) (answer 0 0) (tick-done h) (e ∙ sym (moves b g (timed t tick) (answer 0 0) (tick-done h) refl (λ k. refl)))

@@ -1,22 +1,16 @@
-// The clock: every timed call moves it first, and the clock call does nothing more. With it stand what all timed calls share: the order of
-// the checks 2, 3 and 4, and the check of the time.
-//
-// `tick_in` is the clock call on a buffer that is known to be good.
+// The clock, which every timed call moves first, and the leaks of the counters. With it stands what
+// all timed calls share: the order of the checks 2, 3 and 4, and the check of the time.
 use buffer::fields;
-use rules::Answer;
 ghost use mathlib.Core.Path.{_≡_};
 ghost use mathlib.Core.Bool.{true, _&&_};
 ghost use Prim.Native.Nat.{_*_, _/_, _-_, _<_, _≤_};
 ghost use lib.ListN.{length, getD};
 ghost use lib.Dec.{leb};
-ghost use Rattle.rules.specs.Calls.{timed};
-ghost use Rattle.rules.specs.declared.Event.the-variants.{Tick as tick};
 ghost use Rattle.rules.specs.Tables.{highestTime, among, refusals};
 ghost use Rattle.rules.specs.Rules.{check, moved};
 ghost use Rattle.buffer.specs.Places.{SIZE, LAST};
 ghost use Rattle.buffer.specs.Layout.{spread, rows, factsOf, view};
 ghost use Rattle.buffer.specs.Good.{good};
-ghost use Rattle.clock.specs.Call.{Says};
 ghost use Rattle.clock.specs.Clock.{gone, dueOf, drained, leaked};
 
 // a less b, and 0 where b is more.
@@ -123,23 +117,4 @@ pub fn refused(n: u32) -> bool
     ensures { λ r. ⌜ r ≡ among n refusals ⌝ }
 {
     (n == 1) | (n == 2) | (n == 3) | (n == 4) | (n == 5)
-}
-
-// The clock call on a good buffer.
-pub fn tick_in(s: &mut [u32], t: u32) -> Answer
-    requires { ⌜ length (now s) ≡ SIZE ⌝ }
-    requires { ⌜ good (now s) ≡ true ⌝ }
-    ensures { λ r. ⌜ Says (now (s .entry)) (timed t tick) r (now (s .exit)) ⌝ }
-{
-    if !timely(s, t) {
-        return Answer {
-            number: 3,
-            second: 0,
-        };
-    }
-    advance(s, t);
-    Answer {
-        number: 0,
-        second: 0,
-    }
 }

@@ -18,8 +18,7 @@ use Rattle.buffer.specs.Layout.{rows, factsOf, view}
 use Rattle.buffer.specs.Good.{good}
 use Rattle.buffer.proofs.Laid.{Laid, laid-good, laid-as, laid-intervals}
 use Rattle.buffer.proofs.Laying.{length-pad}
-use Rattle.buffer.proofs.Goodness.{valid-view}
-use Rattle.buffer.proofs.Sane.{valid-facts}
+use Rattle.buffer.proofs.Sane.{good-sane}
 use Rattle.opening.proofs.Copying.{stored as stores}
 use Rattle.clock.specs.Call.{callAnswer, Says}
 use Rattle.clock.proofs.Saying.{moves, says-good, says-refused}
@@ -63,11 +62,11 @@ both-parts room a s h =
 module _ (b : List ℕ) (g : good b ≡ true) where
   pub nfm-flag : getD b NFM 0 ≤ 1
   unfolding factsOf
-  nfm-flag = valid-facts (view b) (valid-view b g) .sane .mode .nfm
+  nfm-flag = good-sane b g .mode .nfm
 
   pub start-flag : getD b START 0 ≤ 1
   unfolding factsOf
-  start-flag = valid-facts (view b) (valid-view b g) .sane .mode .start
+  start-flag = good-sane b g .mode .start
 
 -- a line that is read as an order
 abbrev isBad : Line → Bool

@@ -1,4 +1,4 @@
-// The C interface: the eleven calls of the gate, exported. Each slice is a pointer and a count, and
+// The C interface: the twelve calls of the gate, exported. Each slice is a pointer and a count, and
 // each call gives back two numbers. include/dialchisel.h says what the caller owes. Each call
 // promises what the gate's own does.
 use rules::Answer;
@@ -10,11 +10,13 @@ ghost use Rattle.causes.specs.Tables.{errorFor};
 ghost use Rattle.clock.specs.Call.{Says};
 ghost use Rattle.reasons.specs.Why.{RoomSays};
 ghost use Rattle.opening.specs.Open.{order, OpenSays};
+ghost use Rattle.turning.specs.Turning.{TurnSays};
 ghost use Rattle.saving.specs.Save.{SaveSays};
 ghost use Rattle.command.specs.Command.{CommandSays};
 
-// Opens the state: a new record begins. The card's three files may each be absent, with no bytes: the module's own two rule then, and counters begin
-// at 0. 1 for a state that is not 1,330 numbers, 2 for a setting or file out of range, 3 for the time.
+// Opens the state: a new record begins. The card's three files may each be absent, with no bytes:
+// the module's own two rule then, and counters begin at 0. 1 for a state that is not 1,331 numbers,
+// 2 for a setting or file out of range, 3 for the time.
 #[no_mangle]
 pub extern "C" fn dialchisel_open<'a, 'b>(
     state: &mut [u32],
@@ -50,7 +52,17 @@ pub extern "C" fn dialchisel_open<'a, 'b>(
     )
 }
 
-// May request `kind` go to the network at `time`? 0 yes; 10 to 18 no.
+// Turns a state of version 1, of 1,330 numbers, into one of this version: the record begins with
+// what it holds, and no reset is due. 1 where `old` is no good state of version 1, or `state` is not
+// 1,331 numbers.
+#[no_mangle]
+pub extern "C" fn dialchisel_turn_1(old: &[u32], state: &mut [u32]) -> Answer
+    ensures { λ r. ⌜ TurnSays (now (old .entry)) (now (state .entry)) r (now (state .exit)) ⌝ }
+{
+    gate::turn(old, state)
+}
+
+// May request `kind` go to the network at `time`? 0 yes; 10, 11 and 13 to 18 no.
 #[no_mangle]
 pub extern "C" fn dialchisel_request(state: &mut [u32], time: u32, kind: u32) -> Answer
     ensures { λ r. ⌜ Says (now (state .entry)) (timed time (ask kind)) r (now (state .exit)) ⌝ }
@@ -116,7 +128,7 @@ pub extern "C" fn dialchisel_dropped(state: &mut [u32], time: u32) -> Answer
     gate::dropped(state, time)
 }
 
-// The clock call: time passes, and nothing else.
+// The clock call: time passes, and the timed reset that is due is ordered: 12, and else 0.
 #[no_mangle]
 pub extern "C" fn dialchisel_tick(state: &mut [u32], time: u32) -> Answer
     ensures { λ r. ⌜ Says (now (state .entry)) (timed time tick) r (now (state .exit)) ⌝ }

@@ -21,7 +21,7 @@ pub fn happen_in(s: &mut [u32], t: u32, e: Event) -> Answer
         Event::Ask(q) => request::request_in(s, t, q),
         Event::Outcome(service, o) => outcome::outcome_in(s, t, service, o),
         Event::Dropped => outcome::dropped_in(s, t),
-        Event::Tick => clock::tick_in(s, t),
+        Event::Tick => ticking::tick_in(s, t),
     }
 }
 

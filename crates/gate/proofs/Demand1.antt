@@ -16,6 +16,7 @@ use Rattle.clock.specs.Call.{callAnswer, callAfter, Says}
 use Rattle.reasons.specs.Why.{RoomSays}
 use Rattle.reasons.proofs.Room.{room-left}
 use Rattle.opening.specs.Open.{Order, openNumber, openAfter, OpenSays}
+use Rattle.turning.specs.Turning.{turned, turns, TurnSays}
 use Rattle.saving.specs.Save.{saves, SaveSays}
 use Rattle.command.specs.Command.{CommandSays}
 use Rattle.command.proofs.Lined.{refused-line}
@@ -31,6 +32,14 @@ call-refused b c r x s h = s .left ∙ go (good b) (ap refused (sym (s .answered
 pub open-refused : (b : List ℕ) (o : Order) (r : Answer) (x : List ℕ) → OpenSays b o r x → r .number ≢ 0 → x ≡ b
 unfolding openAfter
 open-refused b o r x s h = s .left ∙ rw (ne-eqb (openNumber b o) 0 (λ z. h (ap (λ (a : Answer). a .number) (s .answered) ∙ z)))
+
+-- the older buffer is lent to be read only
+pub turn-refused : (old b : List ℕ) (r : Answer) (x : List ℕ) → TurnSays old b r x → r .number ≢ 0 → x ≡ b
+turn-refused old b r x s h = s .left ∙ go (turns old b) (ap (λ (a : Answer). a .number) (s .answered))
+  where
+    go : (w : Bool) → r .number ≡ cond w 0 1 → cond w (turned old) b ≡ b
+    go true e = absurd (h e)
+    go false e = refl
 
 -- the counter file never changes the state, and the room only where it is written
 pub save-refused : (b room : List ℕ) (r : Answer) (x y : List ℕ) → SaveSays b room r x y → r .number ≢ 0 → (x ≡ b) × (y ≡ room)

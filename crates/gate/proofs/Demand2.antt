@@ -3,16 +3,17 @@
 -- Assumes nothing.
 use mathlib.Core.Path.{_≡_, refl, sym, ap, _∙_}
 use mathlib.Core.Bool.{Bool, true, false, cond}
-use mathlib.Core.List.{List, _++_, append-nil}
+use mathlib.Core.List.{List, [], _∷_, _++_, append-nil}
+use mathlib.Core.Logic.{_≢_}
 use Prim.Native.Nat.{ℕ, _+_, _<_}
 use native.Mathlib.Omega.{arith}
 use lib.Dec.{lit<}
 use lib.ListN.{getD, drop, replicate}
 use lib.Seq.{getD-take, getD-drop}
 use Rattle.rules.specs.declared.Answer.{Answer}
-use Rattle.rules.specs.Calls.{Counter, C-BR-1, C-R-1, C-PDP-1, C-PDP-2, C-PDP-3, C-PDP-4, Call, timed, answer}
-use Rattle.rules.specs.declared.Event.the-variants.{Ask as ask}
-use Rattle.rules.specs.Tables.{Kind, ofSix}
+use Rattle.rules.specs.Calls.{Counter, C-BR-1, C-R-1, C-PDP-1, C-PDP-2, C-PDP-3, C-PDP-4, Call, answer}
+use Rattle.rules.specs.Tables.{Kind, goes, ofSix}
+use Rattle.rules.specs.Direct.{Sends, by-permit, by-order}
 use Rattle.rules.specs.Rules.{ruling, enters, adds, learn, newest, short, step}
 use Rattle.rules.specs.State.{State}
 use Rattle.buffer.specs.Places.{COUNTERS}
@@ -74,39 +75,43 @@ counters-return b room r x y s e c o q z t f p d k =
 
 -- ---- Permits
 
--- a buffer that permits is good, since a bad one is answered 1
-permits-good : (b : List ℕ) (c : Call) → callAnswer b c .number ≡ 0 → good b ≡ true
+-- what is answered other than 1 is answered of a good buffer
+answered-good : (b : List ℕ) (c : Call) → callAnswer b c .number ≢ 1 → good b ≡ true
 unfolding callAnswer
-permits-good b c z = go (good b) refl z
+answered-good b c n = go (good b) refl n
   where
-    go : (x : Bool) → good b ≡ x → cond x (ruling (view b) c) (answer 1 0) .number ≡ 0 → x ≡ true
+    go : (x : Bool) → good b ≡ x → cond x (ruling (view b) c) (answer 1 0) .number ≢ 1 → x ≡ true
     go true e z = refl
-    go false e z = absurd (omega arith)
+    go false e z = absurd (z refl)
 
-module _ (b : List ℕ) (t q : ℕ) (r : Answer) (x : List ℕ) (s : Says b (timed t (ask q)) r x) (z : r .number ≡ 0) where
-  c : Call
-  c = timed t (ask q)
+-- a call that sends request q at t, by its permit or by the gate's order: it is no refusal, and is
+-- added to the lists of q
+sends-not-1 : {t m q : ℕ} {c : Call} → Sends t c m q → m ≢ 1
+sends-not-1 by-permit z = omega arith
+sends-not-1 by-order z = omega arith
 
-  zero-is : callAnswer b (timed t (ask q)) .number ≡ 0
-  zero-is = ap (λ (a : Answer). a .number) (sym (s .answered)) ∙ z
+sends-adds : {t m q : ℕ} {c : Call} → Sends t c m q → (a : Answer) → a .number ≡ m → (k : Kind) → adds k c a ≡ cond (goes q k) (t ∷ []) []
+unfolding adds enters
+sends-adds by-permit a e k = rw e
+sends-adds by-order a e k = rw e
 
+module _ (b : List ℕ) (t q : ℕ) (c : Call) (r : Answer) (x : List ℕ) (s : Says b c r x) (h : Sends t c (r .number) q) where
   g : good b ≡ true
-  g = permits-good b (timed t (ask q)) zero-is
+  g = answered-good b c (λ z. sends-not-1 h (ap (λ (a : Answer). a .number) (s .answered) ∙ z))
 
-  ruling-is : ruling (view b) c .number ≡ 0
-  unfolding c
-  ruling-is = ap (λ (a : Answer). a .number) (sym (answer-is b g c (ruling (view b) c) refl)) ∙ zero-is
+  is : ruling (view b) c ≡ r
+  is = sym (answer-is b g c (ruling (view b) c) refl) ∙ sym (s .answered)
 
-  row-is : (k : Kind) → row x (place k) ≡ newest (row b (place k) ++ adds k c (ruling (view b) c))
-  unfolding c step short learn
+  row-is : (k : Kind) → row x (place k) ≡ newest (row b (place k) ++ cond (goes q k) (t ∷ []) [])
+  unfolding step short learn
   row-is k =
       ap (λ (y : List ℕ). view y .lists k) (s .left ∙ after-is b g c (ruling (view b) c) refl)
       ∙ ap (λ (w : State). w .lists k) (view-lay-valid (step (view b) c) (keep (view b) (valid-view b g) c))
+      ∙ ap (λ (l : List ℕ). newest (row b (place k) ++ l)) (sends-adds h (ruling (view b) c) (ap (λ (a : Answer). a .number) is) k)
 
-  -- a permitted request is added to each of its lists, and to no other
-  pub permit-grows : Grows b t q x
-  unfolding c adds enters
-  permit-grows = record {
-    added = λ k h. row-is k ∙ rw (ruling-is, h);
-    others = λ k h. row-is k ∙ rw (ruling-is, h, append-nil) (newest-all (row b (place k)) (lists-short b g k));
+  -- what is sent is added to each of its lists, and to no other
+  pub send-grows : Grows b t q x
+  send-grows = record {
+    added = λ k e. row-is k ∙ rw e;
+    others = λ k e. row-is k ∙ rw (e, append-nil) (newest-all (row b (place k)) (lists-short b g k));
   }

@@ -1,22 +1,25 @@
--- Demand 3 on the buffer: from any accepted opening, and from any good buffer, whatever is done
--- with the buffer after it, openings and refused calls among it, the next call is answered as the
--- rules answer over the record since the last accepted opening. Assumes nothing.
+-- Demand 3 on the buffer: from any accepted opening or turning, and from any good buffer, whatever
+-- is done with the buffer after it, openings, turnings and refused calls among it, the next call is
+-- answered as the rules answer over the record since the last one accepted. Assumes nothing.
 use mathlib.Core.Path.{_≡_, refl, sym, ap, _∙_}
 use mathlib.Core.Bool.{Bool, true, false, cond, _&&_, false≢true}
 use mathlib.Core.List.{List, [], _∷_, _++_}
-use Prim.Native.Nat.{ℕ}
+use Prim.Native.Nat.{ℕ, _<_}
 use lib.Dec.{leb, eqb}
 use lib.ListN.{length}
 use borrow.Author.Tests.{eq-eqb}
 use Rattle.rules.specs.declared.Answer.{Answer}
-use Rattle.rules.specs.Calls.{Call, timed, typed, Entry}
-use Rattle.rules.specs.declared.Event.the-variants.{Ask as ask}
-use Rattle.rules.specs.Tables.{highestTime, among, limiting}
+use Rattle.rules.specs.Calls.{Call, timed, typed, Entry, entry}
+use Rattle.rules.specs.declared.Event.the-variants.{Ask as ask, Outcome as outcome}
+use Rattle.rules.specs.declared.Outcome.the-variants.{Rejected as rejected}
+use Rattle.rules.specs.Tables.{highestTime, among, limiting, permanent}
+use Rattle.rules.specs.Record.{dueNow}
 use Rattle.rules.specs.Rules.{ruling, step, held, heldAnswers}
 use Rattle.rules.specs.State.{State}
 use Rattle.rules.specs.Told.{tells, ruled, entered, onward, ruledAll, told}
-use Rattle.rules.specs.Demand3.{Again}
+use Rattle.rules.specs.Demand3.{Again, NoReset, InTheWindow}
 use Rattle.rules.proofs.Demand3.{Starts, as-the-rules, whole, demand-3, held-told, held-answers}
+use Rattle.rules.proofs.Due.{not-dead}
 use Rattle.rules.proofs.Again.{again}
 use Rattle.rules.proofs.RecordTells.{known-tells}
 use Rattle.rules.proofs.Newest.{Sound, known-sound}
@@ -32,10 +35,12 @@ use Rattle.reasons.specs.Why.{reasons, whyOf}
 use Rattle.reasons.proofs.Record.{reasons-same}
 use Rattle.opening.specs.Open.{Order, Typed, settings, files, openNumber, givenBy, openAfter, OpenSays}
 use Rattle.opening.proofs.Opened.{opened-valid}
+use Rattle.turning.specs.Turning.{good1, turned, turns, TurnSays}
+use Rattle.turning.proofs.Turned.{turned-good, view-turned, accepted}
 use Rattle.at.specs.Lines.{readLine}
 use Rattle.command.specs.Command.{CommandSays}
 use Rattle.command.proofs.Lined.{heard-says, unheard-left}
-use Rattle.gate.specs.History.{Doing, opened, called, obeyed, saved, Run, done, then, accepts, Since, begun, heard, since, recorded, recordOf}
+use Rattle.gate.specs.History.{Doing, opened, turned as turned-into, called, obeyed, saved, Run, done, then, accepts, Since, begun, heard, since, recorded, recordOf}
 use Rattle.gate.specs.Demands.{AskedAgain, OnTheBuffer}
 
 -- the buffer b holds what the calls since the start leave, and they were answered as what it held
@@ -135,6 +140,29 @@ opening-kept h b o r x k t s = by (accepts o) refl
     by true e = opened-kept b o r x t (number-ok b long o e) s
     by false e = kept-as k (s .left ∙ rw (number-no b long o e))
 
+-- what a good buffer of version 1 is turned into
+version-1-kept : (old : List ℕ) → good1 old ≡ true → {x : List ℕ} → x ≡ turned old → Kept (begun (view old)) x
+version-1-kept old h e =
+    let v : valid (view old) ≡ true = rw (view-turned old h) at (valid-view (turned old) (turned-good old h)) in
+    record {
+      starts = valid-starts (view old) v;
+      valid = v;
+      is = e ∙ sym (lay-view-good (turned old) (turned-good old h)) ∙ ap (λ (w : State). lay w) (view-turned old h);
+      answered = refl;
+    }
+
+-- after a turning, accepted or not
+turning-kept : (h : Since) (b old : List ℕ) (r : Answer) (x : List ℕ) → Kept h b → TurnSays old b r x → Kept (cond (good1 old) (begun (view old)) h) x
+unfolding turns
+turning-kept h b old r x k s = by (good1 old) refl
+  where
+    long : length b ≡ SIZE
+    long = good-shape b (kept-good h b k) .long
+
+    by : (a : Bool) → good1 old ≡ a → Kept (cond a (begun (view old)) h) x
+    by true e = version-1-kept old e (s .left ∙ rw (e, eq-eqb (length b) SIZE long))
+    by false e = kept-as k (s .left ∙ rw e)
+
 -- after an AT line, read or not
 typing-kept : (h : Since) (b line room : List ℕ) (r : Answer) (x y : List ℕ) → Kept h b → CommandSays b line room r x y
     → Kept (cond (leb 16 (length room)) (heard h (typed (readLine line)) r) h) x
@@ -149,6 +177,7 @@ run-kept h k done = k
 run-kept h {b = b} k (then (called {c = c} {r = r} {x = y} s) q) = run-kept (heard h c r) (kept-called h b k c r y s) q
 run-kept h {b = b} k (then (obeyed {line = line} {room = room} {r = r} {x = y} {y = z} s) q) = run-kept _ (typing-kept h b line room r y z k s) q
 run-kept h k (then (saved s) q) = run-kept h (kept-as k (s .left)) q
+run-kept h {b = b} k (then (turned-into {old = old} {r = r} {x = y} s) q) = run-kept _ (turning-kept h b old r y k s) q
 run-kept h {b = b} k (then (opened {o = o} {r = r} {x = y} t s) q) = run-kept _ (opening-kept h b o r y k t s) q
 
 -- ---- The theorem
@@ -225,3 +254,22 @@ pub demand-3-from-a-good-buffer : (b : List ℕ) → good b ≡ true
 demand-3-from-a-good-buffer b h ds rs x q =
     let v = valid-view b h in
     on-the-buffer _ x (run-kept (begun (view b)) (record { starts = valid-starts (view b) v; valid = v; is = sym (lay-view-good b h); answered = refl }) q)
+
+-- and from a buffer of version 1 on, which is turned, answered 0: the record begins with what it
+-- holds, and the limits count the permits that it held
+pub demand-3-from-version-1 : (old b : List ℕ) (r : Answer) (y : List ℕ) → TurnSays old b r y → r .number ≡ 0
+    → (ds : List Doing) (rs : List Answer) (x : List ℕ) → Run y ds rs x → OnTheBuffer (since (begun (view old)) ds rs) x
+demand-3-from-version-1 old b r y s z ds rs x q =
+    let a = accepted s z in
+    on-the-buffer _ x (run-kept (begun (view old)) (version-1-kept old (a .0) (a .1)) q)
+
+-- ---- The timed reset
+
+-- on a buffer whose record has a permanent rejection at p, where no reset was due before it and
+-- nothing has reset the module since, the reset is ordered in T1's window
+pub reset-in-the-window : (h : Since) (x : List ℕ) → OnTheBuffer h x → (past later : List Entry) (p s cause second column : ℕ) (a : Answer)
+    → recordOf h ≡ later ++ (entry (timed p (outcome s (rejected cause second column))) a ∷ past)
+    → permanent column cause ≡ true → 0 < h .given .facts .opening .T1 → h .given .facts .opening .rpm ≡ 1 → dueNow (h .given) past ≡ 0 → NoReset later
+    → InTheWindow (h .given) (recordOf h) p (λ c. callAnswer x c)
+reset-in-the-window h x o past later p s cause second column a e lasts above on none quiet =
+    rw e (not-dead (h .given) past p s cause second column a lasts above on none later quiet (λ c. callAnswer x c) (rw e at (o .demand .direct)))

@@ -23,7 +23,8 @@ use Rattle.at.specs.Lines.{readLine}
 use Rattle.command.specs.Command.{CommandSays}
 use Rattle.gate.specs.History.{Since, recordOf}
 
--- ---- Demand 2: the lists, from the buffer b to the buffer x, by a permit of request q at t
+-- ---- Demand 2: the lists, from the buffer b to the buffer x, by a permit of request q at t, or by
+-- a reset that is ordered, which is as request 5
 
 pub record Grows (b : List ℕ) (t q : ℕ) (x : List ℕ) : Type 0 where
   -- "A permit at t is added to: attach (0, 1), activation (2), PDP (2, 4), SMS (3), reset (5)"; "At
@@ -42,7 +43,8 @@ pub record AskedAgain (t q : ℕ) (a : Answer) (y : List ℕ) : Type 0 where
   -- after exactly so many, or more, that limit does not answer
   pub in-time : (u : ℕ) (r : Answer) (z : List ℕ) → Says y (timed u (ask q)) r z → t + a .second ≤ u → r .number ≢ a .number
 
--- ---- Demand 3: of the buffer x after what was done since the last accepted opening
+-- ---- Demand 3: of the buffer x after what was done since the last opening or turning that was
+-- accepted
 
 pub record OnTheBuffer (h : Since) (x : List ℕ) : Type 0 where
   -- the answers that were given are the rules' answers over the record, one by one
@@ -60,7 +62,7 @@ pub record OnTheBuffer (h : Since) (x : List ℕ) : Type 0 where
   pub whole : (other : Call → Answer) → Direct (h .given) (recordOf h) other → (c : Call) → other c ≡ callAnswer x c
   -- a request that a limit blocks, asked again
   pub again : (t q : ℕ) (a : Answer) (y : List ℕ) → Says x (timed t (ask q)) a y → among (a .number) limiting ≡ true → AskedAgain t q a y
-  -- the 1,330 places are what the record tells, each list cut to its newest 255
+  -- the 1,331 places are what the record tells, each list cut to its newest 255
   pub places : x ≡ lay (short (tells (h .given) (recordOf h)))
   pub stays-good : good x ≡ true
   -- why a request would not be permitted is told as the record has it

@@ -1,8 +1,10 @@
-// The gate: every call of Dialchisel under one name, on a state of 1,330 numbers that the caller lends. Every call accepts every input: a
-// state of any length and contents, any number, any file and room. A refusal changes nothing in any of them.
+// The gate: every call of Dialchisel under one name, on a state of 1,331 numbers that the caller
+// lends. Every call accepts every input: a state of any length and contents, any number, any file
+// and room. A refusal changes nothing in any of them.
 //
-// What each call promises is a relation between what it was given, what it answers and what it leaves: `OpenSays`, `Says`,
-// `CommandSays` and `SaveSays`; of `why`, which changes nothing, what it says, `whyOf` and `RoomSays`;
+// What each call promises is a relation between what it was given, what it answers and what it
+// leaves: `OpenSays`, `TurnSays`, `Says`, `CommandSays` and `SaveSays`; of `why`, which changes
+// nothing, what it says, `whyOf` and `RoomSays`;
 // of `parameters` and `rates`, which are asked of the files alone, which part it is, `IsPart`; of
 // `error`, which is asked of nothing but its numbers, `errorFor`. Each allows one result only.
 use reasons::said::Why;
@@ -18,11 +20,13 @@ ghost use Rattle.causes.specs.Tables.{errorFor};
 ghost use Rattle.clock.specs.Call.{Says};
 ghost use Rattle.reasons.specs.Why.{whyOf, RoomSays};
 ghost use Rattle.opening.specs.Open.{order, OpenSays};
+ghost use Rattle.turning.specs.Turning.{TurnSays};
 ghost use Rattle.saving.specs.Save.{SaveSays};
 ghost use Rattle.command.specs.Command.{CommandSays};
 
-// Opens the state: a new record begins. The card's three files may each be absent, with no bytes: the module's own two rule then, and counters begin
-// at 0. 1 for a state that is not 1,330 numbers, 2 for a setting or file out of range, 3 for the time.
+// Opens the state: a new record begins. The card's three files may each be absent, with no bytes:
+// the module's own two rule then, and counters begin at 0. 1 for a state that is not 1,331 numbers,
+// 2 for a setting or file out of range, 3 for the time.
 pub fn open<'a, 'b>(
     state: &mut [u32],
     time: u32,
@@ -57,6 +61,15 @@ pub fn open<'a, 'b>(
     )
 }
 
+// Turns a state of version 1, of 1,330 numbers, into one of this version: the record begins with
+// what it holds, and no reset is due. 1 where `old` is no good state of version 1, or `state` is not
+// 1,331 numbers.
+pub fn turn(old: &[u32], state: &mut [u32]) -> Answer
+    ensures { λ r. ⌜ TurnSays (now (old .entry)) (now (state .entry)) r (now (state .exit)) ⌝ }
+{
+    turning::turn(old, state)
+}
+
 // The six parameter bytes that rule, as a part of the card's file, or of the module's own where the
 // card has none; an empty part where either file is bad.
 pub fn parameters<'a>(card: &'a [u8], own: &'a [u8]) -> &'a [u8]
@@ -72,7 +85,7 @@ pub fn rates<'a>(card: &'a [u8], own: &'a [u8]) -> &'a [u8]
     card::rates(card, own)
 }
 
-// May request `kind` go to the network at `time`? 0 yes; 10 to 18 no.
+// May request `kind` go to the network at `time`? 0 yes; 10, 11 and 13 to 18 no.
 pub fn request(state: &mut [u32], time: u32, kind: u32) -> Answer
     ensures { λ r. ⌜ Says (now (state .entry)) (timed time (ask kind)) r (now (state .exit)) ⌝ }
 {
@@ -142,7 +155,7 @@ pub fn dropped(state: &mut [u32], time: u32) -> Answer
     events::happen(state, time, Event::Dropped)
 }
 
-// The clock call: time passes, and nothing else.
+// The clock call: time passes, and the timed reset that is due is ordered: 12, and else 0.
 pub fn tick(state: &mut [u32], time: u32) -> Answer
     ensures { λ r. ⌜ Says (now (state .entry)) (timed time tick) r (now (state .exit)) ⌝ }
 {

@@ -10,7 +10,7 @@ ghost use Rattle.buffer.specs.Good.{good, goodAs};
 
 // Whether it is a good buffer of `size` numbers and of a version. The lines of the first version
 // are those of every one.
-fn is_good_as(s: &[u32], size: usize, version: u32) -> bool
+pub fn is_good_as(s: &[u32], size: usize, version: u32) -> bool
     requires { ⌜ BASE ≤ size ⌝ }
     ensures { λ r. ⌜ r ≡ goodAs size version (now (s .entry)) ⌝ }
 {

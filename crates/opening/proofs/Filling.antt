@@ -14,9 +14,9 @@ use Rattle.buffer.proofs.Segments.{spelled, spell, paste-seg, width-set}
 use Rattle.buffer.proofs.Laying.{paste-whole, length-pad}
 use Rattle.opening.specs.Open.{Order, begun}
 
--- the parts as they are filled: places 0-9, intervals, parameters, house limits, rates, 31-43, counters, lengths, lists
+-- the parts as they are filled: places 0-9, intervals, parameters, house limits, rates, 31-43, counters, lengths, lists, due time
 abbrev parts : List ℕ
-parts = 10 ∷ 10 ∷ 6 ∷ 2 ∷ 3 ∷ 13 ∷ 6 ∷ 5 ∷ 1275 ∷ []
+parts = 10 ∷ 10 ∷ 6 ∷ 2 ∷ 3 ∷ 13 ∷ 6 ∷ 5 ∷ 1275 ∷ 1 ∷ []
 
 record Cut (b : List ℕ) (segs : List (List ℕ)) : Type 0 where
   wide : map length segs ≡ parts
@@ -38,14 +38,14 @@ blank-cut : {b : List ℕ} → b ≡ replicate SIZE 0 → Cut b (zeroed parts)
 blank-cut e = record { wide = zeroed-wide parts; is = e ∙ sym (zeroed-is parts) }
 
 -- part k is replaced by y
-module _ {b : List ℕ} {segs : List (List ℕ)} (c : Cut b segs) (k : ℕ) (y : List ℕ) (nine : k < 9) (h : length y ≡ getD parts k 0) (short : length (getD segs k []) ≤ length y) where
+module _ {b : List ℕ} {segs : List (List ℕ)} (c : Cut b segs) (k : ℕ) (y : List ℕ) (ten : k < 10) (h : length y ≡ getD parts k 0) (short : length (getD segs k []) ≤ length y) where
   whole : {x : List ℕ} → x ≡ paste b (off parts k + 0) y → Cut x (set segs k y)
   whole e = record {
     wide = width-set segs parts (c .wide) k y h;
     is =
         e
         ∙ ap (λ (l : List ℕ). paste l (off parts k + 0) y) (c .is)
-        ∙ paste-seg segs parts (c .wide) k 0 y (omega arith) nine
+        ∙ paste-seg segs parts (c .wide) k 0 y (omega arith) ten
         ∙ ap (λ (l : List ℕ). concat (set segs k l)) (paste-whole (getD segs k []) y short);
   }
 
@@ -78,4 +78,4 @@ module _ (o : Order) (few : length (o .intervals) ≤ 10) where
       let c5 = whole c4 4 r (lit< tt) rl (omega arith) e3 in
       let c6 = whole c5 6 k (lit< tt) kl (omega arith) e4 in
       c6 .is
-      ∙ (λ i. concat (head ∷ pad 10 (o .intervals) ∷ spell-all p 6 pl i ∷ (o .A1 ∷ o .S1 ∷ []) ∷ spell-all r 3 rl i ∷ replicate 13 0 ∷ spell-all k 6 kl i ∷ replicate 5 0 ∷ rows-zero i ∷ []))
+      ∙ (λ i. concat (head ∷ pad 10 (o .intervals) ∷ spell-all p 6 pl i ∷ (o .A1 ∷ o .S1 ∷ []) ∷ spell-all r 3 rl i ∷ replicate 13 0 ∷ spell-all k 6 kl i ∷ replicate 5 0 ∷ rows-zero i ∷ (0 ∷ []) ∷ []))

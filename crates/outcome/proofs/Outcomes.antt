@@ -5,7 +5,7 @@ use mathlib.Core.List.{List, [], _∷_}
 use Prim.Native.Nat.{ℕ, zero, suc, _+_, _≤_, _<_}
 use native.Mathlib.Omega.{arith}
 use lib.Dec.{lit<, leb, eqb}
-use lib.ListN.{length, getD, set}
+use lib.ListN.{length, getD, set, length-set}
 use borrow.Author.Tests.{leb-true}
 use Rattle.rules.specs.declared.Answer.{Answer}
 use Rattle.rules.specs.Calls.{timed, answer}
@@ -14,15 +14,15 @@ use Rattle.rules.specs.declared.Event.the-variants.{Outcome as outcome, Dropped
 use Rattle.rules.specs.declared.Outcome.the-variants.{Granted as granted, Silent as silent, Rejected as rejected}
 use Rattle.rules.specs.Causes.{action, both, reaches}
 use Rattle.rules.specs.Tables.{highestTime, Kind, refusals, moodOn, oneMore, four}
-use Rattle.rules.specs.Rules.{check, inRange, timely, stands, refusal, wait, failed, verdict, refused, moved, onGranted, onFailed, onOutcome, acted, changed, enters, adds}
-use Rattle.rules.specs.State.{Facts, Services, withServices}
+use Rattle.rules.specs.Rules.{check, inRange, timely, stands, refusal, wait, failed, verdict, refused, moved, onGranted, onFailed, onOutcome, dueOn, acted, changed, enters, adds}
+use Rattle.rules.specs.State.{Facts, Services, withServices, withDue}
 use Rattle.rules.proofs.Among.{not-among}
 use Rattle.rules.proofs.Checks.{in-range, in-time}
-use Rattle.buffer.specs.Places.{STANDING, MOOD}
+use Rattle.buffer.specs.Places.{STANDING, MOOD, DUE}
 use Rattle.buffer.specs.Layout.{spread, rows, factsOf, view}
 use Rattle.buffer.specs.Good.{good}
 use Rattle.buffer.proofs.Segments.{part-at}
-use Rattle.buffer.proofs.Laid.{Laid, laid-good, laid-as, laid-standing, laid-mood}
+use Rattle.buffer.proofs.Laid.{Laid, laid-good, laid-as, laid-standing, laid-mood, laid-due}
 use Rattle.clock.specs.Call.{Says}
 use Rattle.clock.proofs.Saying.{says-good, rules-on, moves}
 use Rattle.clock.proofs.Leaking.{laid-moved}
@@ -132,6 +132,24 @@ module _ (b : List ℕ) (g : good b ≡ true) (t i : ℕ) (h : i < 4) where
         mood = cond (eqb i 2) m (factsOf b .services .mood);
       }))
 
+-- after a rejection, by what its cause asks for
+pub rejects : (b : List ℕ) (t i cause second column : ℕ) {k m : ℕ} {two : Bool} {a : Answer} {x : List ℕ} → k ≡ action column cause second → two ≡ both column cause → m ≡ moodOn cause
+    → a ≡ failed (factsOf b) i k → x ≡ served b t (onFailed t i (eqb (a .number) 20) two m (factsOf b))
+    → (a ≡ failed (factsOf b) i (action column cause second)) × (x ≡ served b t (onFailed t i (eqb (a .number) 20) (both column cause) (moodOn cause) (factsOf b)))
+rejects b t i cause second column {a = a} acts whose mood e p =
+    (e ∙ ap (failed (factsOf b) i) acts, p ∙ (λ j. served b t (onFailed t i (eqb (a .number) 20) (whose j) (mood j) (factsOf b))))
+
+-- it is laid out again
+laid-failed : (b : List ℕ) → good b ≡ true → (t i : ℕ) (back two : Bool) (m : ℕ) {x : List ℕ} → x ≡ served b t (onFailed t i back two m (factsOf b))
+    → Laid x (withServices (moved t (factsOf b)) (onFailed t i back two m (factsOf b))) (rows (view b .lists))
+unfolding moved onFailed
+laid-failed b g t i back two m e =
+    let s = laid-good b g .shaped in
+    record {
+      shaped = record { intervals = s .intervals; failures = refl; ends = refl; standing = length-set (factsOf b .services .standing) i 0 ∙ s .standing; counters = refl; five = s .five; short = s .short };
+      is = e;
+    }
+
 -- a failure is answered, not refused
 failed-low : (f : Facts) (i n : ℕ) → 20 ≤ n → refused (failed f i n) ≡ false
 unfolding failed
@@ -177,7 +195,7 @@ module _ (b : List ℕ) (t : ℕ) (e : Event) (n : ℕ) (d : n ≡ refusal (fact
 module _ (b : List ℕ) (g : good b ≡ true) (t n : ℕ) (z : n ≡ 0) where
   pub says-granted : (i : ℕ) → n ≡ refusal (factsOf b) (timed t (outcome i granted)) → {x : List ℕ} → x ≡ served b t (onGranted i (factsOf b .services))
       → Says b (timed t (outcome i granted)) (answer 0 0) x
-  unfolding verdict moved acted onOutcome adds enters
+  unfolding verdict moved acted onOutcome dueOn adds enters
   says-granted i d p = says-event b t (outcome i granted) n d z g (answer 0 0) refl refl (λ k. refl) p
 
   pub says-dropped : n ≡ refusal (factsOf b) (timed t dropped) → {x y : List ℕ} → x ≡ spread (moved t (factsOf b)) (rows (view b .lists))
@@ -189,17 +207,17 @@ module _ (b : List ℕ) (g : good b ≡ true) (t n : ℕ) (z : n ≡ 0) where
 
   pub says-silent : (i : ℕ) → n ≡ refusal (factsOf b) (timed t (outcome i silent)) → {a : Answer} {x : List ℕ} → a ≡ failed (factsOf b) i 20
       → x ≡ served b t (onFailed t i (eqb (a .number) 20) false 1 (factsOf b)) → Says b (timed t (outcome i silent)) a x
-  unfolding verdict moved acted onOutcome onFailed wait adds enters
+  unfolding verdict moved acted onOutcome onFailed dueOn wait adds enters
   says-silent i d {a} e p =
       says-event b t (outcome i silent) n d z g a (sym e) (rw e (failed-low (factsOf b) i 20 (omega arith))) (λ k. refl) p
 
-  pub says-rejected : (i cause second column : ℕ) → n ≡ refusal (factsOf b) (timed t (outcome i (rejected cause second column)))
-      → {k m : ℕ} {two : Bool} {a : Answer} {x : List ℕ} → k ≡ action column cause second → two ≡ both column cause → m ≡ moodOn cause
-      → a ≡ failed (factsOf b) i k → x ≡ served b t (onFailed t i (eqb (a .number) 20) two m (factsOf b))
-      → Says b (timed t (outcome i (rejected cause second column))) a x
-  unfolding verdict moved acted onOutcome onFailed wait adds enters
-  says-rejected i cause second column d {a = a} acts whose mood e p =
-      let is : a ≡ failed (factsOf b) i (action column cause second) = e ∙ ap (failed (factsOf b) i) acts in
+  pub says-rejected : (i cause second column : ℕ) → n ≡ refusal (factsOf b) (timed t (outcome i (rejected cause second column))) → {u : ℕ} {a : Answer} {x y : List ℕ}
+      → u ≡ dueOn t (rejected cause 0 column) (factsOf b) → a ≡ failed (factsOf b) i (action column cause second)
+      → x ≡ served b t (onFailed t i (eqb (a .number) 20) (both column cause) (moodOn cause) (factsOf b)) → y ≡ set x DUE u
+      → Says b (timed t (outcome i (rejected cause second column))) a y
+  unfolding verdict moved acted onOutcome onFailed dueOn wait adds enters
+  says-rejected i cause second column d {a = a} due e p q =
       let low = failed-low (factsOf b) i (action column cause second) (action-low column cause second) in
-      says-event b t (outcome i (rejected cause second column)) n d z g a (sym is) (rw is low) (λ k. refl)
-      (p ∙ (λ j. served b t (onFailed t i (eqb (a .number) 20) (whose j) (mood j) (factsOf b))))
+      says-event b t (outcome i (rejected cause second column)) n d z g a (sym e) (rw e low) (λ k. refl)
+      (laid-as (laid-due (laid-failed b g t i (eqb (a .number) 20) (both column cause) (moodOn cause) p) _) q .is
+      ∙ (λ j. spread (withDue (withServices (moved t (factsOf b)) (onFailed t i (eqb (a .number) 20) (both column cause) (moodOn cause) (factsOf b))) (due j)) (rows (view b .lists))))

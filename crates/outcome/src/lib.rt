@@ -11,7 +11,8 @@ ghost use lib.Dec.{eqb};
 ghost use Rattle.rules.specs.Calls.{timed};
 ghost use Rattle.rules.specs.declared.Event.the-variants.{Outcome as outcome, Dropped as dropped};
 ghost use Rattle.rules.specs.declared.Outcome.the-variants.{Granted as granted, Silent as silent, Rejected as rejected};
-ghost use Rattle.rules.specs.Tables.{highestTime};
+ghost use Rattle.rules.specs.Causes.{action, both};
+ghost use Rattle.rules.specs.Tables.{highestTime, moodOn};
 ghost use Rattle.rules.specs.Rules.{inRange, standing, failed, onGranted, onFailed};
 ghost use Rattle.buffer.specs.Places.{SIZE};
 ghost use Rattle.buffer.specs.Layout.{factsOf};
@@ -126,6 +127,22 @@ fn fail_both(s: &mut [u32], t: u32, i: usize, m: u32) -> Answer
     a
 }
 
+// Service i is rejected at t with a cause of a column.
+fn reject(s: &mut [u32], t: u32, i: usize, cause: u32, second: u32, column: u32) -> Answer
+    requires { ⌜ length (now s) ≡ SIZE ⌝ }
+    requires { ⌜ good (now s) ≡ true ⌝ }
+    requires { ⌜ i < 4 ⌝ }
+    requires { ⌜ t ≤ highestTime ⌝ }
+    ensures { λ r. ⌜ r ≡ failed (factsOf (now (s .entry))) i (action column cause second) ⌝ }
+    ensures { λ r. ⌜ now (s .exit) ≡ served (now (s .entry)) t (onFailed t i (eqb (r .number) 20) (both column cause) (moodOn cause) (factsOf (now (s .entry)))) ⌝ }
+{
+    let m = causes::mood(cause);
+    if causes::both(column, cause) {
+        return fail_both(s, t, i, m);
+    }
+    fail(s, t, i, causes::action(column, cause, second), m)
+}
+
 // A grant, on a good buffer.
 fn granted_in(s: &mut [u32], t: u32, service: u32) -> Answer
     requires { ⌜ length (now s) ≡ SIZE ⌝ }
@@ -175,16 +192,10 @@ fn rejected_in(s: &mut [u32], t: u32, service: u32, cause: u32, second: u32, col
             second: 0,
         };
     }
-    if causes::both(column, cause) {
-        return fail_both(s, t, service as usize, causes::mood(cause));
-    }
-    fail(
-        s,
-        t,
-        service as usize,
-        causes::action(column, cause, second),
-        causes::mood(cause),
-    )
+    let due = timer::due(s, t, column, cause);
+    let a = reject(s, t, service as usize, cause, second, column);
+    fields::set_due(s, due);
+    a
 }
 
 // Service 2 dropped, on a good buffer.

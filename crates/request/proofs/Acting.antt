@@ -1,27 +1,29 @@
 -- What the parts of a request do to a buffer that is laid out. Assumes nothing.
-use mathlib.Core.Path.{_≡_, refl, sym, subst}
+use mathlib.Core.Path.{_≡_, refl, sym, ap, _∙_, subst}
 use mathlib.Core.Bool.{Bool, true, false, cond}
 use mathlib.Core.List.{List, [], _∷_, _++_, append-nil}
+use mathlib.Core.Logic.{_≢_}
 use Prim.Native.Nat.{ℕ, zero, suc, _+_, _-_, min, _≤_, _<_}
 use native.Mathlib.Omega.{arith}
 use lib.Dec.{lit<, leb, eqb}
 use lib.ListN.{length, getD, set}
-use borrow.Author.Tests.{leb-true}
+use borrow.Author.Tests.{leb-true, eq-eqb, ne-eqb}
 use Rattle.rules.specs.Tables.{Kind, attach, activation, pdp, sms, reset, goes, among, counting}
 use Rattle.rules.specs.Rules.{counted, asked, newest}
-use Rattle.rules.specs.State.{Facts, withCounters, withServices, withStanding, idle}
-use Rattle.buffer.specs.Places.{STANDING, COUNTERS}
+use Rattle.rules.specs.State.{Facts, withCounters, withServices, withDue, withStanding, idle}
+use Rattle.buffer.specs.Places.{STANDING, COUNTERS, DUE}
 use Rattle.buffer.specs.Layout.{rows}
+use Rattle.buffer.specs.Good.{Shape}
 use Rattle.buffer.specs.Lists.{permitted}
 use Rattle.rules.proofs.Among.{among-all}
 use Rattle.buffer.proofs.Keep.{newest-all}
-use Rattle.buffer.proofs.Laid.{all-four, Laid, laid-counter, counter-at, laid-standing, laid-permit}
-use Rattle.request.specs.Request.{bumped, tallied, stood, listed}
+use Rattle.buffer.proofs.Laid.{all-four, Laid, laid-as, laid-shape, laid-shaped, laid-counter, counter-at, laid-standing, laid-due, laid-permit}
+use Rattle.request.specs.Request.{bumped, tallied, stood, listed, sent}
 
 abbrev pub stands-at : Facts → List ℕ → Facts
 stands-at f l = withServices f (withStanding (f .services) l)
 
--- a block that raises a counter has one of the six
+-- an answer that raises a counter has one of the six
 pub counter-of : (n : ℕ) → among n counting ≡ true → (11 ≤ n) × (n - 11 < 6)
 counter-of n e = among-all (λ m. (11 ≤ m) × (m - 11 < 6)) n counting (omega arith) e
 
@@ -78,3 +80,30 @@ module _ {b : List ℕ} {f : Facts} (l : Kind → List ℕ) (w : Laid b f (rows 
   laid-filed (suc (suc (suc (suc zero)))) h = subst (λ (rs : List (List ℕ)). Laid (permitted b 2 t) f rs) (λ i. same attach i ∷ same activation i ∷ added pdp ∷ same sms i ∷ same reset i ∷ []) (laid-permit w 2 t (lit< tt))
   laid-filed (suc (suc (suc (suc (suc zero))))) h = subst (λ (rs : List (List ℕ)). Laid (permitted b 4 t) f rs) (λ i. same attach i ∷ same activation i ∷ same pdp i ∷ same sms i ∷ added reset ∷ []) (laid-permit w 4 t (lit< tt))
   laid-filed (suc (suc (suc (suc (suc (suc q)))))) h = absurd (omega arith)
+
+-- all that a permit of request q changes
+pub laid-sent : {b : List ℕ} {f : Facts} (l : Kind → List ℕ) → Laid b f (rows l) → ((k : Kind) → length (l k) ≤ 255) → (t q : ℕ) → q ≤ 5
+    → Laid (sent b q t) (withDue (stands-at f (asked q (f .services .standing))) (cond (eqb q 5) 0 (f .due))) (rows (after l q t))
+unfolding sent
+laid-sent {b} {f} l w short t q h = go (eqb q 5) (laid-filed l (laid-stood w q) short t q h)
+  where
+    go : (x : Bool) → Laid (listed (stood b q) q t) (stands-at f (asked q (f .services .standing))) (rows (after l q t))
+        → Laid (cond x (set (listed (stood b q) q t) DUE 0) (listed (stood b q) q t)) (withDue (stands-at f (asked q (f .services .standing))) (cond x 0 (f .due))) (rows (after l q t))
+    go true k = laid-due k 0
+    go false k = k
+
+-- the same from what each part left
+pub stood-shape : (b : List ℕ) (q : ℕ) {x : List ℕ} → x ≡ stood b q → Shape b → Shape x
+stood-shape b q d h = laid-shape (laid-as (laid-stood (laid-shaped b h) q) d)
+
+module _ (b : List ℕ) (q t : ℕ) {x y : List ℕ} (d : x ≡ stood b q) (e : y ≡ listed x q t) where
+  filed : y ≡ listed (stood b q) q t
+  filed = e ∙ ap (λ (x : List ℕ). listed x q t) d
+
+  pub sent-reset : q ≡ 5 → {z : List ℕ} → z ≡ set y DUE 0 → z ≡ sent b q t
+  unfolding sent
+  sent-reset h k = rw (eq-eqb q 5 h) (k ∙ ap (λ (y : List ℕ). set y DUE 0) filed)
+
+  pub sent-other : q ≢ 5 → y ≡ sent b q t
+  unfolding sent
+  sent-other h = rw (ne-eqb q 5 h) filed

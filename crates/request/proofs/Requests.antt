@@ -11,24 +11,25 @@ use Rattle.rules.specs.Calls.{timed}
 use Rattle.rules.specs.declared.Event.the-variants.{Ask as ask}
 use Rattle.rules.specs.Tables.{Kind, goes}
 use Rattle.rules.specs.Rules.{inRange, ruling, refused, moved, counted, asked, acted, changed, enters, adds, newest, step}
-use Rattle.rules.specs.State.{Facts, withCounters, withServices, withStanding}
+use Rattle.rules.specs.State.{Facts, withCounters, withServices, withDue, withStanding}
 use Rattle.rules.proofs.Checks.{permit-passed, in-range}
 use Rattle.buffer.specs.Layout.{spread, lay, rows, factsOf, view}
-use Rattle.buffer.specs.Good.{Shape, good}
+use Rattle.buffer.specs.Good.{good}
 use Rattle.buffer.proofs.Keep.{newest-all}
-use Rattle.buffer.proofs.Laid.{laid-as, laid-shape}
+use Rattle.buffer.proofs.Laid.{laid-as}
 use Rattle.clock.specs.Call.{Says}
 use Rattle.clock.proofs.Saying.{lists-short, goes-on, says-good, says-refused}
 use Rattle.clock.proofs.Leaking.{laid-moved}
-use Rattle.request.specs.Request.{stood, listed, tallied}
-use Rattle.request.proofs.Acting.{laid-stood, laid-filed, laid-tallied}
+use Rattle.request.specs.Request.{tallied, sent}
+use Rattle.request.proofs.Acting.{laid-sent, laid-tallied}
 
 module _ (b : List ℕ) (g : good b ≡ true) (t q : ℕ) (a : Answer) (e : a ≡ ruling (view b) (timed t (ask q))) where
   -- facts and lists after an accepted request whose answer is n
   facts-after : ℕ → Facts
   facts-after n =
       let f = moved t (factsOf b) in
-      withServices (withCounters f (counted n (f .counters))) (withStanding (f .services) (cond (eqb n 0) (asked q (f .services .standing)) (f .services .standing)))
+      withDue (withServices (withCounters f (counted n (f .counters))) (withStanding (f .services) (cond (eqb n 0) (asked q (f .services .standing)) (f .services .standing))))
+      (cond (eqb n 0 && eqb q 5) 0 (f .due))
 
   lists-after : ℕ → Kind → List ℕ
   lists-after n k = newest (view b .lists k ++ cond (eqb n 0 && goes q k) (t ∷ []) [])
@@ -47,16 +48,12 @@ module _ (b : List ℕ) (g : good b ≡ true) (t q : ℕ) (a : Answer) (e : a �
   unfolding inRange
   served z = leb-true q 5 (in-range (factsOf b) t (ask q) (permit-passed (view b) (timed t (ask q)) (ap (λ (x : Answer). x .number) (sym e) ∙ z)))
 
-  pub stood-shape : {x y : List ℕ} → x ≡ spread (moved t (factsOf b)) (rows (view b .lists)) → y ≡ stood x q → Shape y
-  stood-shape p d = laid-shape (laid-as (laid-stood (laid-moved b g t p) q) d)
-
-  pub request-permits : {x y z : List ℕ} → refused a ≡ false → a .number ≡ 0 → x ≡ spread (moved t (factsOf b)) (rows (view b .lists)) → y ≡ stood x q → z ≡ listed y q t
-      → Says b (timed t (ask q)) a z
+  pub request-permits : {x y : List ℕ} → refused a ≡ false → a .number ≡ 0 → x ≡ spread (moved t (factsOf b)) (rows (view b .lists)) → y ≡ sent x q t
+      → Says b (timed t (ask q)) a y
   unfolding facts-after lists-after counted
-  request-permits h n p d k =
-      let w = laid-as (laid-stood (laid-moved b g t p) q) d in
-      let f = laid-as (laid-filed (view b .lists) w short t q (served n)) k in
-      says-good b g (timed t (ask q)) a (sym e) (f .is ∙ sym (goes-to h ∙ (λ i. spread (facts-after (n i)) (rows (lists-after (n i))))))
+  request-permits h n p d =
+      let w = laid-as (laid-sent (view b .lists) (laid-moved b g t p) short t q (served n)) d in
+      says-good b g (timed t (ask q)) a (sym e) (w .is ∙ sym (goes-to h ∙ (λ i. spread (facts-after (n i)) (rows (lists-after (n i))))))
 
   kept : (k : Kind) → eqb (a .number) 0 ≡ false → lists-after (a .number) k ≡ view b .lists k
   unfolding lists-after
@@ -69,7 +66,8 @@ module _ (b : List ℕ) (g : good b ≡ true) (t q : ℕ) (a : Answer) (e : a �
       let f = moved t (factsOf b) in
       λ i.
       spread
-      (withServices (withCounters f (counted (a .number) (f .counters))) (withStanding (f .services) (cond (z i) (asked q (f .services .standing)) (f .services .standing))))
+      (withDue (withServices (withCounters f (counted (a .number) (f .counters))) (withStanding (f .services) (cond (z i) (asked q (f .services .standing)) (f .services .standing))))
+      (cond (z i && eqb q 5) 0 (f .due)))
       (rows (λ k. kept k z i))
 
   pub request-blocked : {x y : List ℕ} → refused a ≡ false → (a .number ≡ 0 → ⊥) → x ≡ spread (moved t (factsOf b)) (rows (view b .lists)) → y ≡ tallied x (a .number)

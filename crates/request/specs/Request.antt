@@ -5,10 +5,10 @@ use mathlib.Core.List.{List}
 use lib.Dec.{leb, eqb}
 use lib.ListN.{getD, set}
 use Rattle.rules.specs.Tables.{among, counting, oneMore}
-use Rattle.buffer.specs.Places.{STANDING, COUNTERS}
+use Rattle.buffer.specs.Places.{STANDING, COUNTERS, DUE}
 use Rattle.buffer.specs.Lists.{permitted}
 
--- counter i after a block
+-- counter i after a block, or an ordered reset
 abbrev pub bumped : List ℕ → ℕ → List ℕ
 bumped b i = set b (COUNTERS + i) (oneMore (getD b (COUNTERS + i) 0))
 
@@ -27,3 +27,7 @@ unfoldable pub listed : List ℕ → ℕ → ℕ → List ℕ
 listed b q t =
     cond (leb q 1) (permitted b 0 t)
     (cond (eqb q 2) (permitted (permitted b 1 t) 2 t) (cond (eqb q 3) (permitted b 3 t) (cond (eqb q 4) (permitted b 2 t) (permitted b 4 t))))
+
+-- all that a permit of request q at t changes, once the clock is at t: request 5 ends the due time
+unfoldable pub sent : List ℕ → ℕ → ℕ → List ℕ
+sent b q t = cond (eqb q 5) (set (listed (stood b q) q t) DUE 0) (listed (stood b q) q t)

@@ -1,5 +1,5 @@
 // Requests, on a buffer that is known to be good: decided by reading alone, then carried out by
-// writing.
+// writing. `send` and `tally` are what the reset that the gate orders has in common with request 5.
 use buffer::fields;
 use buffer::lists;
 use rules::Answer;
@@ -13,7 +13,7 @@ ghost use Rattle.rules.specs.Tables.{oneMore, among, counting};
 ghost use Rattle.buffer.specs.Places.{SIZE};
 ghost use Rattle.buffer.specs.Good.{Shape, good};
 ghost use Rattle.clock.specs.Call.{Says};
-ghost use Rattle.request.specs.Request.{bumped, tallied, stood, listed};
+ghost use Rattle.request.specs.Request.{bumped, tallied, stood, listed, sent};
 
 // The standing after a permit of request q.
 fn stand(s: &mut [u32], q: u32)
@@ -59,6 +59,18 @@ fn list(s: &mut [u32], q: u32, t: u32)
     lists::permit_on(s, 4, t);
 }
 
+// What a permit of request q at t changes, once the clock is at t.
+pub fn send(s: &mut [u32], t: u32, q: u32)
+    requires { ⌜ Shape (now s) ⌝ }
+    ensures { λ _. ⌜ now (s .exit) ≡ sent (now (s .entry)) q t ⌝ }
+{
+    stand(s, q);
+    list(s, q, t);
+    if q == 5 {
+        fields::set_due(s, 0);
+    }
+}
+
 // One more, to 255 at most.
 fn one_more(x: u32) -> u32
     ensures { λ r. ⌜ r ≡ oneMore x ⌝ }
@@ -79,15 +91,15 @@ fn bump(s: &mut [u32], i: usize)
     fields::set_counter(s, i, more);
 }
 
-// Whether n is the number of a block that raises a counter.
+// Whether n is the number of an answer that raises a counter.
 fn counts(n: u32) -> bool
     ensures { λ r. ⌜ r ≡ among n counting ⌝ }
 {
-    (n == 11) | (n == 13) | (n == 14) | (n == 15) | (n == 16)
+    (n == 11) | (n == 12) | (n == 13) | (n == 14) | (n == 15) | (n == 16)
 }
 
-// The counters after answer n: a block by N1 or F1-F4 raises its own.
-fn tally(s: &mut [u32], n: u32)
+// The counters after answer n: a block by N1 or F1-F4 raises its own, an ordered reset C-R-1.
+pub fn tally(s: &mut [u32], n: u32)
     requires { ⌜ length (now s) ≡ SIZE ⌝ }
     ensures { λ _. ⌜ now (s .exit) ≡ tallied (now (s .entry)) n ⌝ }
 {
@@ -110,8 +122,7 @@ pub fn request_in(s: &mut [u32], t: u32, q: u32) -> Answer
     }
     clock::advance(s, t);
     if n == 0 {
-        stand(s, q);
-        list(s, q, t);
+        send(s, t, q);
         return a;
     }
     tally(s, n);

@@ -119,7 +119,7 @@ unfolding enters
 refused-enters (ask q) n k h = rw (ne-eqb n 0 (among-all (λ m. m ≢ 0) n refusals (omega arith) h))
 refused-enters (outcome s o) n k h = refl
 refused-enters dropped n k h = refl
-refused-enters tick n k h = refl
+refused-enters tick n k h = rw (ne-eqb n 12 (among-all (λ m. m ≢ 12) n refusals (omega arith) h))
 
 pub refused-adds : (k : Kind) (c : Call) (a : Answer) → refused a ≡ true → adds k c a ≡ []
 unfolding adds

@@ -9,20 +9,19 @@ use lib.ListN.{length, getD}
 use lib.Dec.{ltb}
 use borrow.Author.Tests.{ltb-false, le-leb, lt-leb}
 use Rattle.rules.specs.declared.Answer.{Answer}
-use Rattle.rules.specs.Calls.{ask, Call, timed, Entry}
+use Rattle.rules.specs.Calls.{Call, Entry}
 use Rattle.rules.specs.Tables.{inHour, Kind}
-use Rattle.rules.specs.Record.{lastTime, permits}
+use Rattle.rules.specs.Record.{permits}
 use Rattle.rules.specs.Rules.{ruling, held, heldAnswers, short}
 use Rattle.rules.specs.State.{State}
 use Rattle.rules.specs.Told.{tells, ruled, entered, onward, ruledAll, told}
-use Rattle.rules.specs.Direct.{Limited, Direct}
+use Rattle.rules.specs.Direct.{Limited, Sends, Direct}
 use Rattle.rules.specs.Demand3.{Demand3}
-use Rattle.rules.proofs.Checks.{permit-passed, on-time}
 use Rattle.rules.proofs.RecordTells.{Begins, known-tells, answers-told}
 use Rattle.rules.proofs.Newest.{Rising, rising-more, Sound, known-sound, bounded}
 use Rattle.rules.proofs.Hour.{rolling-hour}
 use Rattle.rules.proofs.Given.{Rises, in-hour-more, ruled-given, given-ruled}
-use Rattle.rules.proofs.Direct.{sentences, not-over, permit}
+use Rattle.rules.proofs.Direct.{sentences, not-over, Sent, sent}
 
 -- what a record may begin with: a new buffer, or what a good buffer holds
 pub record Starts (g : State) : Type 0 where
@@ -70,13 +69,13 @@ held-answers g b cs = bounded g (b .sound) (b .short) cs .same-answers ∙ answe
 
 -- ---- The bound without counting
 
--- of more permits than a limit on it, the one so many places before a permit is at least 3,600
--- seconds older
-pub spaced : (g : State) → Starts g → (before : List Call) (t q : ℕ) → ruled g (told g before) (timed t (ask q)) .number ≡ 0
+-- of more permits than a limit on it, the one so many places before a permit or an ordered reset is
+-- at least 3,600 seconds older
+pub spaced : (g : State) → Starts g → (before : List Call) (t q : ℕ) (c : Call) → Sends t c (ruled g (told g before) c .number) q
     → (n L : ℕ) (k : Kind) → Limited g (told g before) q n L k → 0 < L → L ≤ length (permits g k (told g before))
     → getD (permits g k (told g before)) (length (permits g k (told g before)) - L) 0 + 3600 ≤ t
 unfolding tells
-spaced g b before t q e n L k l above long = ltb-false t (getD ps (length ps - L) 0 + 3600) gone
+spaced g b before t q c s n L k l above long = ltb-false t (getD ps (length ps - L) 0 + 3600) gone
   where
     past : List Entry
     past = told g before
@@ -84,14 +83,14 @@ spaced g b before t q e n L k l above long = ltb-false t (getD ps (length ps - L
     ps : List ℕ
     ps = permits g k past
 
-    late : lastTime g past ≤ t
-    late = on-time (tells g past .facts) t (ask q) (permit-passed (tells g past) (timed t (ask q)) e)
+    goes : Sent g past t q
+    goes = sent g past (ruled-given g past (rises g b before) c) refl s
 
     up : Rising (g .facts .opening .opened) ps t
-    up = rising-more _ ps _ t (rises g b before k) late
+    up = rising-more _ ps _ t (rises g b before k) (goes .late)
 
     few : inHour t (ps ++ (t ∷ [])) ≤ L
-    few = not-over g past t L k above (permit g past (ruled-given g past (rises g b before) (timed t (ask q))) e .keeps n L k l)
+    few = not-over g past t L k above (goes .keeps n L k l)
 
     gone : ltb t (getD ps (length ps - L) 0 + 3600) ≡ false
     gone = rw (rolling-hour L t (g .facts .opening .opened) ps above up, le-leb L (length ps) long) at (lt-leb L (inHour t ps) (rw (in-hour-more t ps) at few))

@@ -1,20 +1,20 @@
 -- Whoever gives each number when its line says keeps the sentences of demand 3, over any record
 -- whose permits rise: they follow from the lines, without the rules. Assumes nothing.
-use Prim.Native.Nat.{ℕ, _≤_, _<_}
-use mathlib.Core.Path.{_≡_, refl, sym, _∙_}
-use mathlib.Core.Bool.{Bool, true, false, false≢true}
+use Prim.Native.Nat.{ℕ, _+_, _≤_, _<_}
+use mathlib.Core.Path.{_≡_, refl, sym, ap, _∙_}
+use mathlib.Core.Bool.{Bool, true, false, cond, false≢true}
 use mathlib.Core.List.{List, [], _∷_, _++_}
-use mathlib.Core.Logic.{_≢_}
-use lib.Dec.{ltb}
-use borrow.Author.Tests.{ltb-true, ltb-false, eq-eqb}
+use mathlib.Core.Logic.{inl, inr, _≢_}
+use lib.Dec.{ltb, eqb}
+use borrow.Author.Tests.{ltb-true, ltb-false, lt-ltb, eq-eqb}
 use native.Mathlib.Omega.{arith}
 use Rattle.rules.specs.declared.Answer.{Answer}
-use Rattle.rules.specs.Calls.{Outcome, ask, outcome, Call, timed, Entry, entry, answer}
-use Rattle.rules.specs.Causes.{action}
-use Rattle.rules.specs.Tables.{inHour, fromNewest, freeIn, Kind, goes, among, limiting}
+use Rattle.rules.specs.Calls.{Outcome, ask, outcome, rejected, Call, timed, Entry, entry, answer}
+use Rattle.rules.specs.Causes.{Action, back-off as backing, both-back-off, re-attach, other-network, as-3GPP, not-same-PLMN, not-same-area, not-same-cell, reactivate, re-establish, numberOf, printed, action}
+use Rattle.rules.specs.Tables.{inHour, fromNewest, freeIn, Kind, goes, among, limiting, permanent, delayFor}
 use Rattle.rules.specs.State.{State}
-use Rattle.rules.specs.Record.{permits}
-use Rattle.rules.specs.Direct.{Accepted, Limited, N1, F1, F2, F3, F4, A1, S1, Over, WithinLimits, Free, nextWait, BacksOff, backs-off, Given, permitted, on-grant, on-drop, on-tick, on-line, out-of-range, out-of-time, wrong-standing, not-as-above, held, blocked, backed-off, in-its-place, other-action, Breaks, back-off, limit, Direct}
+use Rattle.rules.specs.Record.{lastTime, permits, standing, dueNow}
+use Rattle.rules.specs.Direct.{Accepted, Limited, N1, F1, F2, F3, F4, A1, S1, Over, WithinLimits, Free, nextWait, BacksOff, backs-off, Due, Orders, orders, Sends, by-permit, by-order, Given, permitted, on-grant, on-drop, on-tick, on-line, out-of-range, out-of-time, wrong-standing, not-as-above, held, blocked, ordered, backed-off, in-its-place, other-action, Breaks, back-off, limit, Direct}
 use Rattle.rules.proofs.Newest.{rising-more}
 use Rattle.rules.proofs.Hour.{rising-at}
 use Rattle.rules.proofs.Limited.{either}
@@ -43,18 +43,14 @@ module _ (g : State) (past : List Entry) where
 
   -- ---- What a request's answer tells
 
-  -- of a permit
-  pub record Permit (t q : ℕ) : Type 0 where
-    pub free : Free g past t q
-    pub keeps : WithinLimits g past t q
-
-  pub permit : {t q : ℕ} {a : Answer} → Given g past (timed t (ask q)) a → a .number ≡ 0 → Permit t q
-  permit (permitted x free keeps) e = record { free = free; keeps = keeps }
-  permit (out-of-range x) e = absurd (omega arith)
-  permit (out-of-time x y) e = absurd (omega arith)
-  permit (wrong-standing x y z) e = absurd (omega arith)
-  permit (held x low h) e = absurd (omega arith)
-  permit (blocked x free l v lower u) e = absurd (omega (arith, limit-number l .0))
+  -- of a permit: no back-off holds it
+  not-held : {t q : ℕ} {a : Answer} → Given g past (timed t (ask q)) a → a .number ≡ 0 → Free g past t q
+  not-held (permitted x free keeps) e = free
+  not-held (out-of-range x) e = absurd (omega arith)
+  not-held (out-of-time x y) e = absurd (omega arith)
+  not-held (wrong-standing x y z) e = absurd (omega arith)
+  not-held (held x low h) e = absurd (omega arith)
+  not-held (blocked x free l v lower u) e = absurd (omega (arith, limit-number l .0))
 
   -- a permit that is not one too many leaves at most L in its hour, itself counted
   pub not-over : (t L : ℕ) (k : Kind) → 0 < L → (Over g past t L k → ⊥) → inHour t (permits g k past ++ (t ∷ [])) ≤ L
@@ -67,10 +63,41 @@ module _ (g : State) (past : List Entry) where
       go true e = absurd (keeps (record { above = above; over = ltb-true L n e }))
       go false e = ltb-false L n e
 
-  few : (t q : ℕ) (a : Answer) → Given g past (timed t (ask q)) a → a .number ≡ 0 → (n L : ℕ) (k : Kind) → Limited g past q n L k → 0 < L
-      → inHour t (permits g k (entry (timed t (ask q)) a ∷ past)) ≤ L
+  -- of whatever sends a request: no limit on it would be broken
+  pub record Sent (t q : ℕ) : Type 0 where
+    pub late : lastTime g past ≤ t
+    pub keeps : WithinLimits g past t q
+
+  -- N1 alone limits a reset
+  in-N1 : {t n L : ℕ} {k : Kind} → Due g past t → Limited g past 5 n L k → Over g past t L k → ⊥
+  in-N1 d (N1 p e) v = d .not-full v
+  in-N1 d (F1 p e m) v = omega arith
+  in-N1 d (F2 p e m) v = omega arith
+  in-N1 d (F3 p e m) v = omega arith
+  in-N1 d (F4 p (inl e)) v = omega arith
+  in-N1 d (F4 p (inr e)) v = omega arith
+  in-N1 d (A1 (inl e)) v = omega arith
+  in-N1 d (A1 (inr e)) v = omega arith
+  in-N1 d (S1 e) v = omega arith
+
+  pub sent : {t m q : ℕ} {c : Call} {a : Answer} → Given g past c a → a .number ≡ m → Sends t c m q → Sent t q
+  sent (permitted x free keeps) e by-permit = record { late = x .in-time .not-below; keeps = keeps }
+  sent (out-of-range x) e by-permit = absurd (omega arith)
+  sent (out-of-time x y) e by-permit = absurd (omega arith)
+  sent (wrong-standing x y z) e by-permit = absurd (omega arith)
+  sent (held x low h) e by-permit = absurd (omega arith)
+  sent (blocked x free l v lower u) e by-permit = absurd (omega (arith, limit-number l .0))
+  sent (on-tick x h) e by-order = absurd (omega arith)
+  sent (out-of-range x) e by-order = absurd (omega arith)
+  sent (out-of-time x y) e by-order = absurd (omega arith)
+  sent (wrong-standing x y z) e by-order = absurd (omega arith)
+  sent (ordered x d) e by-order = record { late = x .in-time .not-below; keeps = λ n L k. in-N1 d }
+
+  few : (t m q : ℕ) (c : Call) (a : Answer) → Sends t c m q → Given g past c a → a .number ≡ m → (n L : ℕ) (k : Kind) → Limited g past q n L k → 0 < L
+      → inHour t (permits g k (entry c a ∷ past)) ≤ L
   unfolding permits
-  few t q a x e n L k l above = rw (e, counts-own l) (not-over t L k above (permit x e .keeps n L k l))
+  few t m q c a by-permit x e n L k l above = rw (e, counts-own l) (not-over t L k above (sent x e by-permit .keeps n L k l))
+  few t m q c a by-order x e n L k l above = rw (e, counts-own l) (not-over t L k above (sent x e by-order .keeps n L k l))
 
   reset-free : {t : ℕ} {a : Answer} → Given g past (timed t (ask 5)) a → a .number ≢ 10
   reset-free (permitted x free keeps) e = omega arith
@@ -134,7 +161,8 @@ module _ (g : State) (past : List Entry) where
   twenty (permitted x free keeps) e = absurd (omega arith)
   twenty (on-grant x) e = absurd (omega arith)
   twenty (on-drop x) e = absurd (omega arith)
-  twenty (on-tick x) e = absurd (omega arith)
+  twenty (on-tick x h) e = absurd (omega arith)
+  twenty (ordered x d) e = absurd (omega arith)
   twenty (on-line x) e = absurd (omega arith)
   twenty (out-of-range x) e = absurd (omega arith)
   twenty (out-of-time r x) e = absurd (omega arith)
@@ -146,14 +174,83 @@ module _ (g : State) (past : List Entry) where
   twenty (in-its-place x f n) e = absurd (omega arith)
   twenty (other-action {cause = cause} {second = second} {column = column} x f) e = absurd (false≢true (sym f ∙ eq-eqb (action column cause second) 20 e))
 
+  -- ---- What a clock call's answer tells
+
+  number-high : (x : Action) (second : ℕ) → 20 ≤ numberOf x second
+  number-high backing second = omega arith
+  number-high both-back-off second = omega arith
+  number-high re-attach second = omega arith
+  number-high other-network second = go (eqb second 1)
+    where
+      go : (b : Bool) → 20 ≤ cond b 22 20
+      go true = omega arith
+      go false = omega arith
+  number-high as-3GPP second = omega arith
+  number-high not-same-PLMN second = omega arith
+  number-high not-same-area second = omega arith
+  number-high not-same-cell second = omega arith
+  number-high reactivate second = omega arith
+  number-high re-establish second = omega arith
+
+  action-high : (column cause second : ℕ) → 20 ≤ action column cause second
+  unfolding action
+  action-high column cause second = number-high (printed column cause .action) second
+
+  -- 12 is no limit's number
+  limit-not-12 : {q n L : ℕ} {k : Kind} → Limited g past q n L k → n ≢ 12
+  limit-not-12 (N1 p e) h = omega arith
+  limit-not-12 (F1 p e m) h = omega arith
+  limit-not-12 (F2 p e m) h = omega arith
+  limit-not-12 (F3 p e m) h = omega arith
+  limit-not-12 (F4 p e) h = omega arith
+  limit-not-12 (A1 e) h = omega arith
+  limit-not-12 (S1 e) h = omega arith
+
+  twelve : {c : Call} {a : Answer} → Given g past c a → a .number ≡ 12 → Orders g past c
+  twelve (permitted x free keeps) e = absurd (omega arith)
+  twelve (on-grant x) e = absurd (omega arith)
+  twelve (on-drop x) e = absurd (omega arith)
+  twelve (on-tick x h) e = absurd (omega arith)
+  twelve (on-line x) e = absurd (omega arith)
+  twelve (out-of-range x) e = absurd (omega arith)
+  twelve (out-of-time r x) e = absurd (omega arith)
+  twelve (wrong-standing r i x) e = absurd (omega arith)
+  twelve (not-as-above x) e = absurd (omega arith)
+  twelve (held x low h) e = absurd (omega arith)
+  twelve (blocked x free l v lower u) e = absurd (limit-not-12 l e)
+  twelve (ordered x d) e = orders x d
+  twelve (backed-off x f n) e = absurd (omega arith)
+  twelve (in-its-place x f n) e = absurd (omega arith)
+  twelve (other-action {cause = cause} {second = second} {column = column} x f) e = absurd (omega (arith, action-high column cause second))
+
+  reset-now : {c : Call} {a : Answer} → Given g past c a → Orders g past c → a ≡ answer 12 0
+  reset-now (on-tick x h) (orders y d) = absurd (h d)
+  reset-now (out-of-range x) (orders y d) = absurd (x (y .in-range))
+  reset-now (out-of-time r x) (orders y d) = absurd (x (y .in-time))
+  reset-now (wrong-standing r i x) (orders y d) = absurd (x (y .fits))
+  reset-now (ordered x h) (orders y d) = refl
+
+  all-idle : (c : Call) (a : Answer) → Orders g past c → a .number ≡ 12 → (s : ℕ) → standing g s (entry c a ∷ past) ≡ 0
+  unfolding standing
+  all-idle c a (orders y d) e s = rw e
+
+  none-due : (c : Call) (a : Answer) → Orders g past c → a .number ≡ 12 → dueNow g (entry c a ∷ past) ≡ 0
+  unfolding dueNow
+  none-due c a (orders y d) e = rw e
+
+  pub runs-T1 : (t s cause second column : ℕ) (a : Answer) → permanent column cause ≡ true → 0 < g .facts .opening .T1 → g .facts .opening .rpm ≡ 1 → dueNow g past ≡ 0
+      → dueNow g (entry (timed t (outcome s (rejected cause second column))) a ∷ past) ≡ t + delayFor (g .facts .opening .imsi) (g .facts .opening .T1)
+  unfolding dueNow
+  runs-T1 t s cause second column a p above on z = rw (p, lt-ltb 0 (g .facts .opening .T1) above, eq-eqb (g .facts .opening .rpm) 1 on, eq-eqb (dueNow g past) 0 z)
+
   -- ---- The sentences
 
   pub sentences : Rises g past → (next : Call → Answer) → ((c : Call) → Given g past c (next c)) → Direct g past next
   sentences up next lines = record {
     given = lines;
-    no-permit-in-back-off = λ t q e. permit (lines (timed t (ask q))) e .free;
+    no-permit-in-back-off = λ t q e. not-held (lines (timed t (ask q))) e;
     resets-not-held = λ t. reset-free (lines (timed t (ask 5)));
-    at-most = λ t q e n L k l above. few t q (next (timed t (ask q))) (lines (timed t (ask q))) e n L k l above;
+    at-most = λ t c q s. few t (next c .number) q c (next c) s (lines c) refl;
     blocked-by-a-rule = λ t q x e. breaks (lines (timed t (ask q))) x e;
     else-permitted = λ t q x h. else-permits (lines (timed t (ask q))) x h;
     an-hour-at-most = λ t q e. seconds up (lines (timed t (ask q))) e;
@@ -161,4 +258,9 @@ module _ (g : State) (past : List Entry) where
     and-only-then = λ c e. twenty (lines c) e;
     each-for-its-wait = λ t s o x u r. waits-reached g past t s o (next (timed t (outcome s o))) x u r;
     and-no-other = λ t s o x u r. stays-unreached g past t s o (next (timed t (outcome s o))) x u r;
+    orders-then = λ c x. reset-now (lines c) x;
+    orders-only-then = λ c e. twelve (lines c) e;
+    idle-then = λ c x. all-idle c (next c) x (ap (λ (a : Answer). a .number) (reset-now (lines c) x));
+    due-no-more = λ c x. none-due c (next c) x (ap (λ (a : Answer). a .number) (reset-now (lines c) x));
+    T1-runs = λ t s cause second column x p above on z. runs-T1 t s cause second column (next (timed t (outcome s (rejected cause second column)))) p above on z;
   }

@@ -3,7 +3,7 @@
 -- So no call is given two answers. Assumes nothing.
 use Prim.Native.Nat.{ℕ, suc, _+_, _-_, _≤_, _<_}
 use mathlib.Core.Path.{_≡_, refl, sym, ap, _∙_}
-use mathlib.Core.Bool.{Bool, true, false, cond, _&&_, false≢true}
+use mathlib.Core.Bool.{Bool, true, false, cond, not, _&&_, false≢true}
 use mathlib.Core.List.{List, [], _∷_, _++_}
 use mathlib.Core.Logic.{⊎-elim, _≢_}
 use lib.ListN.{getD}
@@ -13,16 +13,17 @@ use native.Mathlib.Omega.{arith}
 use Rattle.rules.specs.declared.Answer.{Answer}
 use Rattle.rules.specs.Calls.{Outcome, Event, ask, outcome, granted, silent, rejected, dropped, tick, Call, timed, typed, Entry, answer}
 use Rattle.rules.specs.Causes.{action}
-use Rattle.rules.specs.Tables.{within, inHour, fromNewest, freeIn, Kind, rank}
+use Rattle.rules.specs.Tables.{within, inHour, fromNewest, freeIn, Kind, reset, rank}
 use Rattle.rules.specs.State.{State, Facts}
-use Rattle.rules.specs.Record.{lastTime, nfmNow, permits, toBackOff, failures, backOffEnd}
-use Rattle.rules.specs.Rules.{Limit, blocks, blockedBy, firstBlock, inRange, timely, stands, runs, wait, failed, verdict}
+use Rattle.rules.specs.Record.{lastTime, nfmNow, permits, toBackOff, failures, backOffEnd, dueNow}
+use Rattle.rules.specs.Rules.{Limit, limit, blocks, blockedBy, firstBlock, inRange, timely, stands, runs, wait, failed, orders, verdict}
 use Rattle.rules.specs.Told.{tells, ruled}
-use Rattle.rules.specs.Direct.{Accepted, Limited, Over, Until, WithinLimits, Free, nextWait, Given, permitted, on-grant, on-drop, on-tick, on-line, out-of-range, out-of-time, wrong-standing, not-as-above, held, blocked, backed-off, in-its-place, other-action}
+use Rattle.rules.specs.Direct.{Accepted, Limited, Over, Until, WithinLimits, Free, nextWait, Due, Given, permitted, on-grant, on-drop, on-tick, on-line, out-of-range, out-of-time, wrong-standing, not-as-above, held, blocked, ordered, backed-off, in-its-place, other-action}
+use Rattle.rules.proofs.Checks.{and-left, and-right}
 use Rattle.rules.proofs.Groups.{of-four}
 use Rattle.rules.proofs.Newest.{Rising, rising-more, within-late, blocks-full, full-blocks}
 use Rattle.rules.proofs.Leaving.{full-leaves}
-use Rattle.rules.proofs.Rows.{Each, each-map, named, named-number, each-named, ordered, Before, first-none, first-named, Found, none, some, find}
+use Rattle.rules.proofs.Rows.{Each, each-map, named, named-number, each-named, ordered as in-order, Before, first-none, first-named, Found, none, some, find}
 use Rattle.rules.proofs.Limited.{limitsOn, applying, listed, limited}
 use Rattle.rules.proofs.Accepting.{not-true, ranges, ranged, service-low, timing, timed-in, fitting, fitted, refused-2, refused-3, refused-4, accepted-verdict, as-above, line-done, line-refused}
 
@@ -40,6 +41,10 @@ abbrev pub Rises : State → List Entry → Type 0
 Rises g past = (k : Kind) → Rising (g .facts .opening .opened) (permits g k past) (lastTime g past)
 
 module _ (g : State) (past : List Entry) where
+  -- N1 where it applies
+  N1-row : Limit
+  N1-row = limit 11 true (g .facts .opening .N1) reset
+
   -- ---- A row blocks just when it applies and a permit would be one too many
 
   pub blocks-over : (u : ℕ) (r : Limit) → blocks (tells g past) u r ≡ true → Over g past u (r .most) (r .kind)
@@ -124,7 +129,7 @@ module _ (g : State) (past : List Entry) where
       unfolding tells
       request-blocked free n L k l v lower =
           by-limits free
-          ∙ first-named (tells g past) t n (limitsOn g past q) (ordered (tells g past .facts) q) (breaks n L k l v)
+          ∙ first-named (tells g past) t n (limitsOn g past q) (in-order (tells g past .facts) q) (breaks n L k l v)
           (each-map (limitsOn g past q) (λ r is x. not-over r (λ e. lower (r .number) (r .most) (r .kind) x (is e))) (limited g past q))
           ∙ ap (blockedBy (tells g past) t) (listed g past q n L k l)
 
@@ -148,7 +153,7 @@ module _ (g : State) (past : List Entry) where
               let l = each-named _ n rs (limited g past q) is is in
               let lower : (n' L' : ℕ) (k' : Kind) → rank n' < rank (named n rs .number) → Limited g past q n' L' k' → Over g past t L' k' → ⊥ =
               λ n' L' k' c l'. unbroken (Before w t n) h n' L' k' l' (λ x. x (omega (arith, c, ap rank (named-number n rs), ap rank (named-number n' rs)))) in
-              rw (by-limits free ∙ first-named w t n rs (ordered (w .facts) q) b h)
+              rw (by-limits free ∙ first-named w t n rs (in-order (w .facts) q) b h)
               (blocked a free l (blocks-over t (named n rs) b) lower (until up t (a .in-time .not-below) (named n rs) b))
 
           go : (x y : Bool) → leb q 3 ≡ x → ltb t (backOffEnd g q past) ≡ y → Given g past (timed t (ask q)) (ruled g past (timed t (ask q)))
@@ -156,8 +161,8 @@ module _ (g : State) (past : List Entry) where
               let low = leb-true q 3 e in
               let h = ltb-true t (backOffEnd g q past) f in
               rw (request-held low h) (held a low h)
-          go true false e f = by (λ low. ltb-false t _ f) (find w t rs (ordered (w .facts) q))
-          go false y e f = by (λ low. absurd (omega (arith, leb-false q 3 e))) (find w t rs (ordered (w .facts) q))
+          go true false e f = by (λ low. ltb-false t _ f) (find w t rs (in-order (w .facts) q))
+          go false y e f = by (λ low. absurd (omega (arith, leb-false q 3 e))) (find w t rs (in-order (w .facts) q))
 
   -- ---- Outcomes that are accepted
 
@@ -194,6 +199,46 @@ module _ (g : State) (past : List Entry) where
   unfolding verdict failed
   failure-other t s cause second column a e = accepted-verdict g past t (outcome s (rejected cause second column)) a ∙ rw e
 
+  -- ---- The timed reset: a clock call orders it just when it may
+
+  ordering : (t : ℕ) → Due g past t → orders (tells g past) t ≡ true
+  unfolding orders tells N1-row
+  ordering t d =
+      let free = not-true (blocks (tells g past) t N1-row) (λ e. d .not-full (blocks-over t N1-row e)) in
+      rw (lt-ltb 0 (dueNow g past) (omega (arith, d .set)), le-leb (dueNow g past) t (d .not-before), eq-eqb (g .facts .opening .rpm) 1 (d .on), free)
+
+  due-then : (t : ℕ) → orders (tells g past) t ≡ true → Due g past t
+  unfolding orders tells N1-row
+  due-then t e =
+      let due = and-left (ltb 0 (dueNow g past) && leb (dueNow g past) t) _ e in
+      let rest = and-right (ltb 0 (dueNow g past) && leb (dueNow g past) t) _ e in
+      let some : 0 < dueNow g past = ltb-true 0 (dueNow g past) (and-left (ltb 0 (dueNow g past)) _ due) in
+      let free = and-right (eqb (g .facts .opening .rpm) 1) _ rest in
+      record {
+        set = λ z. omega (arith, some, z);
+        not-before = leb-true (dueNow g past) t (and-right (ltb 0 (dueNow g past)) _ due);
+        on = eqb-true (g .facts .opening .rpm) 1 (and-left (eqb (g .facts .opening .rpm) 1) _ rest);
+        not-full = λ v. false≢true (ap not (sym (over-blocks t N1-row refl v)) ∙ free);
+      }
+
+  module _ (t : ℕ) (a : Accepted g past t tick) where
+    tick-12 : Due g past t → ruled g past (timed t tick) ≡ answer 12 0
+    unfolding verdict
+    tick-12 d = accepted-verdict g past t tick a ∙ rw (ordering t d)
+
+    tick-0 : (Due g past t → ⊥) → ruled g past (timed t tick) ≡ answer 0 0
+    unfolding verdict
+    tick-0 h = accepted-verdict g past t tick a ∙ rw (not-true (orders (tells g past) t) (λ e. h (due-then t e)))
+
+    tick-given : Given g past (timed t tick) (ruled g past (timed t tick))
+    tick-given = go (orders (tells g past) t) refl
+      where
+        go : (x : Bool) → orders (tells g past) t ≡ x → Given g past (timed t tick) (ruled g past (timed t tick))
+        go true e = let d = due-then t e in rw (tick-12 d) (ordered a d)
+        go false e =
+            let h : Due g past t → ⊥ = λ d. false≢true (sym e ∙ ordering t d) in
+            rw (tick-0 h) (on-tick a h)
+
   -- ---- Any call
 
   module _ (up : Rises g past) where
@@ -211,7 +256,7 @@ module _ (g : State) (past : List Entry) where
         go true e = failed-given t s (rejected cause second column) a e
         go false e = rw (failure-other t s cause second column a e) (other-action a e)
     accepted-given t dropped a = rw (accepted-verdict g past t dropped a) (on-drop a)
-    accepted-given t tick a = rw (accepted-verdict g past t tick a) (on-tick a)
+    accepted-given t tick a = tick-given t a
 
     -- what the rules answer is given by a line
     pub ruled-given : (c : Call) → Given g past c (ruled g past c)
@@ -236,7 +281,7 @@ module _ (g : State) (past : List Entry) where
     given-ruled _ _ (permitted {t = t} {q = q} a free keeps) = sym (request-permitted t q a free keeps)
     given-ruled _ _ (on-grant {t = t} {s = s} a) = sym (accepted-verdict g past t (outcome s granted) a)
     given-ruled _ _ (on-drop {t = t} a) = sym (accepted-verdict g past t dropped a)
-    given-ruled _ _ (on-tick {t = t} a) = sym (accepted-verdict g past t tick a)
+    given-ruled _ _ (on-tick {t = t} a h) = sym (tick-0 t a h)
     given-ruled _ _ (on-line {l = l} h) = sym (line-done g past l h)
     given-ruled _ _ (out-of-range {t = t} {e = e} not-so) = sym (refused-2 g past t e (not-true (inRange e) (λ p. not-so (ranged e p))))
     given-ruled _ _ (out-of-time {t = t} {e = e} r not-so) = sym (refused-3 g past t e (ranges e r) (not-true (timely (tells g past .facts) t) (λ p. not-so (timed-in g past t p))))
@@ -245,6 +290,7 @@ module _ (g : State) (past : List Entry) where
     given-ruled _ _ (not-as-above {l = l} not-so) = sym (line-refused g past l not-so)
     given-ruled _ _ (held {t = t} {q = q} a low h) = sym (request-held t q a low h)
     given-ruled _ _ (blocked {t = t} {q = q} {n = n} {L = L} {k = k} a free l v lower u) = sym (request-blocked t q a free n L k l v lower)
+    given-ruled _ _ (ordered {t = t} a d) = sym (tick-12 t a d)
     given-ruled _ _ (backed-off {t = t} {s = s} {o = o} a e n) = sym (failure-20 t s o a e n)
     given-ruled _ _ (in-its-place {t = t} {s = s} {o = o} a e n) = sym (failure-23 t s o a e n)
     given-ruled _ _ (other-action {t = t} {s = s} {cause = cause} {second = second} {column = column} a e) = sym (failure-other t s cause second column a e)

@@ -89,5 +89,5 @@ counted-six n f = go (among n counting) refl
     P m = counted m (six f) ≡ six (λ k. cond (raises k m) (oneMore (f k)) (f k))
 
     go : (b : Bool) → among n counting ≡ b → P n
-    go true e = among-all P n counting (refl, (refl, (refl, (refl, (refl, tt))))) e
-    go false e = let no = among-none n counting e in rw (e, no .0, no .1 .0, no .1 .1 .0, no .1 .1 .1 .0, no .1 .1 .1 .1 .0)
+    go true e = among-all P n counting (refl, (refl, (refl, (refl, (refl, (refl, tt)))))) e
+    go false e = let no = among-none n counting e in rw (e, no .0, no .1 .0, no .1 .1 .0, no .1 .1 .1 .0, no .1 .1 .1 .1 .0, no .1 .1 .1 .1 .1 .0)

@@ -12,6 +12,7 @@ pub mod Accepting
 pub mod Given
 pub mod Reached
 pub mod Direct
+pub mod Due
 pub mod Idle
 pub mod Demand3
 pub mod Again

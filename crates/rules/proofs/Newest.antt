@@ -10,9 +10,9 @@ use borrow.Author.Tests.{ltb-true, leb-true, lt-ltb, le-leb, eqb-true}
 use native.Mathlib.Omega.{arith}
 use Rattle.rules.specs.declared.Answer.{Answer}
 use Rattle.rules.specs.Calls.{ask, outcome, granted, silent, rejected, dropped, tick, nfm, nfm-start, intervals, query, bad, Call, timed, typed, answer}
-use Rattle.rules.specs.Tables.{within, inHour, fromNewest, ascending, Kind}
+use Rattle.rules.specs.Tables.{within, inHour, fromNewest, ascending, Kind, reset}
 use Rattle.rules.specs.Record.{timeOf}
-use Rattle.rules.specs.Rules.{Limit, limits, blocks, firstBlock, refusal, verdict, ruling, refused, moved, acted, switched, obeyed, changed, enters, adds, learn}
+use Rattle.rules.specs.Rules.{Limit, limit, limits, blocks, firstBlock, orders, refusal, verdict, ruling, refused, moved, acted, switched, obeyed, changed, enters, adds, learn}
 use Rattle.rules.specs.State.{State, Facts}
 use Rattle.rules.specs.Rules.{known, answers, newest, short, step, held, heldAnswers}
 use Rattle.rules.specs.Demand3.{Bytes}
@@ -174,6 +174,10 @@ module _ (w : State) (s : Sound w) (t : ℕ) (late : w .facts .last ≤ t) where
   unfolding verdict short
   ask-same q = rw (first-same (limits (w .facts) q) (limits-small (w .facts) q (s .bytes)))
 
+  orders-same : orders (short w) t ≡ orders w t
+  unfolding orders short
+  orders-same = rw (blocks-same (limit 11 true (w .facts .opening .N1) reset) (s .bytes .N1))
+
 cond-same : {A : Type 0} (b : Bool) (x y z : A) → (b ≡ true → x ≡ y) → cond b x z ≡ cond b y z
 cond-same true x y z h = h refl
 cond-same false x y z h = refl
@@ -185,7 +189,7 @@ verdict-same w s (timed t (outcome _ granted)) p = refl
 verdict-same w s (timed t (outcome _ silent)) p = refl
 verdict-same w s (timed t (outcome _ (rejected _ _ _))) p = refl
 verdict-same w s (timed t dropped) p = refl
-verdict-same w s (timed t tick) p = refl
+verdict-same w s (timed t tick) p = rw (orders-same w s t (on-time (w .facts) t tick p))
 verdict-same w s (typed (nfm _)) p = refl
 verdict-same w s (typed (nfm-start _ _)) p = refl
 verdict-same w s (typed (intervals _)) p = refl

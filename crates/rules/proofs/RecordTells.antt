@@ -11,21 +11,23 @@ use Rattle.rules.specs.declared.Answer.{Answer}
 use Rattle.rules.specs.Calls.{Opening, Counter, Outcome, Event, ask, outcome, granted, silent, rejected, dropped, tick, Line, nfm, nfm-start, intervals, query, bad, Call, timed, typed, Entry, entry}
 use Rattle.rules.specs.Causes.{both, reaches}
 use Rattle.rules.specs.Tables.{Kind, waitFor, moodOn, four, six, ofSix, rateOf}
-use Rattle.rules.specs.Record.{lastTime, nfmNow, startNow, intervalsNow, permitIn, permits, toBackOff, inARow, failures, backOffEnd, standsAsked, standing, mood, leaked, counter}
-use Rattle.rules.specs.Rules.{refusal, refused, wait, points, moved, onGranted, onFailed, onOutcome, acted, switched, obeyed, changed, enters, adds, learn, known}
-use Rattle.rules.specs.State.{State, Facts, Mode, withServices, idle}
+use Rattle.rules.specs.Record.{lastTime, nfmNow, startNow, intervalsNow, permitIn, permits, toBackOff, inARow, failures, backOffEnd, standsAsked, standing, mood, dueNow, leaked, counter}
+use Rattle.rules.specs.Rules.{refusal, refused, wait, points, moved, onGranted, onFailed, onOutcome, dueOn, acted, switched, obeyed, changed, enters, adds, learn, known}
+use Rattle.rules.specs.State.{State, Facts, Mode, withServices, withDue, idle}
 use Rattle.rules.specs.Rules.{answers, counted}
 use Rattle.rules.specs.Told.{tells, ruled, entered, onward, ruledAll, told, AsTold}
 use Rattle.rules.proofs.Checks.{accepted, on-time, refused-adds, outcome-backs}
 use Rattle.rules.proofs.Groups.{of-four, of-six, four-cond, six-path, four-path, set-four, once-more, end-more, failures-cleared, asked-four, counted-six}
 use Rattle.rules.proofs.Leaks.{pointsTo, one-by-one}
 
--- facts by their parts, and a path between two that agree on what was settled, on the time and on the mood
-abbrev factsOf : Opening → Mode → ℕ → (counters failures ends standing : List ℕ) → ℕ → Facts
-factsOf o m l c f e s d = record { opening = o; mode = m; last = l; counters = c; services = record { failures = f; ends = e; standing = s; mood = d } }
+-- facts by their parts, and a path between two that agree on what was settled, on the time, on the mood and on the due time
+abbrev factsOf : Opening → Mode → ℕ → (counters failures ends standing : List ℕ) → (mood due : ℕ) → Facts
+factsOf o m l c f e s d u =
+    record { opening = o; mode = m; last = l; counters = c; services = record { failures = f; ends = e; standing = s; mood = d }; due = u }
 
-facts-path : {c c′ f f′ e e′ s s′ : List ℕ} (o : Opening) (m : Mode) (l d : ℕ) → c ≡ c′ → f ≡ f′ → e ≡ e′ → s ≡ s′ → factsOf o m l c f e s d ≡ factsOf o m l c′ f′ e′ s′ d
-facts-path o m l d p q r z i = factsOf o m l (p i) (q i) (r i) (z i) d
+facts-path : {c c′ f f′ e e′ s s′ : List ℕ} (o : Opening) (m : Mode) (l d u : ℕ) → c ≡ c′ → f ≡ f′ → e ≡ e′ → s ≡ s′
+    → factsOf o m l c f e s d u ≡ factsOf o m l c′ f′ e′ s′ d u
+facts-path o m l d u p q r z i = factsOf o m l (p i) (q i) (r i) (z i) d u
 
 module _ (g : State) (past : List Entry) where
   o : Opening
@@ -56,16 +58,16 @@ module _ (g : State) (past : List Entry) where
 
   module _ (t : ℕ) (a : Answer) (late : old ≤ t) where
     ask-tells : (q : ℕ) → acted t (ask q) a (moved t (tells g past .facts)) ≡ tells g (entry (timed t (ask q)) a ∷ past) .facts
-    unfolding acted onOutcome moved tells lastTime nfmNow startNow intervalsNow inARow failures backOffEnd standing mood counter left old o mode
+    unfolding acted onOutcome moved tells lastTime nfmNow startNow intervalsNow inARow failures backOffEnd standing mood dueNow counter left old o mode
     ask-tells q =
-        facts-path o mode t (mood g past) (ap (counted (a .number)) (drained-all t late) ∙ counted-six (a .number) (left t)) refl refl
+        facts-path o mode t (mood g past) (cond (eqb (a .number) 0 && eqb q 5) 0 (dueNow g past)) (ap (counted (a .number)) (drained-all t late) ∙ counted-six (a .number) (left t)) refl refl
         (ap (λ (l : List ℕ). cond (eqb (a .number) 0) l (four (λ s. standing g s past))) (asked-four q (λ s. standing g s past))
         ∙ four-cond (eqb (a .number) 0) (λ s. standsAsked s q (standing g s past)) (λ s. standing g s past))
 
     granted-tells : (u : ℕ) → acted t (outcome u granted) a (moved t (tells g past .facts)) ≡ tells g (entry (timed t (outcome u granted)) a ∷ past) .facts
-    unfolding acted onOutcome moved tells lastTime nfmNow startNow intervalsNow inARow failures backOffEnd standing mood counter left old o mode onGranted
+    unfolding acted onOutcome dueOn moved tells lastTime nfmNow startNow intervalsNow inARow failures backOffEnd standing mood dueNow counter left old o mode onGranted
     granted-tells u =
-        facts-path o mode t (cond (eqb u 2) 0 (mood g past)) (drained-all t late)
+        facts-path o mode t (cond (eqb u 2) 0 (mood g past)) (dueNow g past) (drained-all t late)
         (failures-cleared u (λ s. inARow g s past))
         (set-four (λ s. 0) (λ s. backOffEnd g s past) (λ n. 0) u)
         (set-four (λ s. 0) (λ s. standing g s past) (λ n. cond (eqb u 2) 2 0) u)
@@ -78,31 +80,33 @@ module _ (g : State) (past : List Entry) where
       row : ℕ → ℕ
       row s = cond (again s) (suc (inARow g s past)) (inARow g s past)
 
-      failed-tells : (d : ℕ) → withServices (moved t (tells g past .facts)) (onFailed t u b two d (moved t (tells g past .facts)))
+      failed-tells : (d z : ℕ) → withDue (withServices (moved t (tells g past .facts)) (onFailed t u b two d (moved t (tells g past .facts)))) z
           ≡ factsOf o mode t (six (left t)) (four (λ s. min (row s) 255))
           (four (λ s. cond (again s) (t + waitFor (o .imsi) (intervalsNow g past) (min (row s) 255)) (backOffEnd g s past)))
-          (four (λ s. cond (eqb u s) 0 (standing g s past))) (cond (eqb u 2) d (mood g past))
+          (four (λ s. cond (eqb u s) 0 (standing g s past))) (cond (eqb u 2) d (mood g past)) z
       unfolding moved tells failures left old o mode onFailed wait again row
-      failed-tells d =
-          facts-path o mode t (cond (eqb u 2) d (mood g past)) (drained-all t late)
+      failed-tells d z =
+          facts-path o mode t (cond (eqb u 2) d (mood g past)) z (drained-all t late)
           (four-path (λ s. once-more (again s) (inARow g s past)))
           (four-path (λ s. end-more (again s) (inARow g s past) (waitFor (o .imsi) (intervalsNow g past)) t (backOffEnd g s past)))
           (set-four (λ s. 0) (λ s. standing g s past) (λ n. 0) u)
 
     outcome-tells : (u : ℕ) (x : Outcome) → eqb (a .number) 20 ≡ (toBackOff x && eqb (nfmNow g past) 1)
         → acted t (outcome u x) a (moved t (tells g past .facts)) ≡ tells g (entry (timed t (outcome u x)) a ∷ past) .facts
-    unfolding acted onOutcome moved tells lastTime nfmNow startNow intervalsNow inARow failures backOffEnd standing mood counter left old o mode again row
+    unfolding acted onOutcome dueOn moved tells lastTime nfmNow startNow intervalsNow inARow failures backOffEnd standing mood dueNow counter left old o mode again row
     outcome-tells u granted h = granted-tells u
-    outcome-tells u silent h = rw h (failed-tells u _ false 1)
-    outcome-tells u (rejected cause second column) h = rw h (failed-tells u _ (both column cause) (moodOn cause))
+    outcome-tells u silent h = rw h (failed-tells u _ false 1 _)
+    outcome-tells u (rejected cause second column) h = rw h (failed-tells u _ (both column cause) (moodOn cause) _)
 
     dropped-tells : acted t dropped a (moved t (tells g past .facts)) ≡ tells g (entry (timed t dropped) a ∷ past) .facts
-    unfolding acted onOutcome moved tells lastTime nfmNow startNow intervalsNow inARow failures backOffEnd standing mood counter left old o mode
-    dropped-tells = facts-path o mode t (mood g past) (drained-all t late) refl refl (set-four (λ s. 0) (λ s. standing g s past) (λ n. 0) 2)
+    unfolding acted onOutcome moved tells lastTime nfmNow startNow intervalsNow inARow failures backOffEnd standing mood dueNow counter left old o mode
+    dropped-tells = facts-path o mode t (mood g past) (dueNow g past) (drained-all t late) refl refl (set-four (λ s. 0) (λ s. standing g s past) (λ n. 0) 2)
 
     tick-tells : acted t tick a (moved t (tells g past .facts)) ≡ tells g (entry (timed t tick) a ∷ past) .facts
-    unfolding acted onOutcome moved tells lastTime nfmNow startNow intervalsNow inARow failures backOffEnd standing mood counter left old o mode
-    tick-tells = facts-path o mode t (mood g past) (drained-all t late) refl refl refl
+    unfolding acted onOutcome moved tells lastTime nfmNow startNow intervalsNow inARow failures backOffEnd standing mood dueNow counter left old o mode
+    tick-tells =
+        facts-path o mode t (mood g past) (cond (eqb (a .number) 12) 0 (dueNow g past)) (ap (counted (a .number)) (drained-all t late) ∙ counted-six (a .number) (left t)) refl refl
+        (four-cond (eqb (a .number) 12) (λ s. 0) (λ s. standing g s past))
 
   -- ---- An AT line that was answered a
 
@@ -114,24 +118,24 @@ module _ (g : State) (past : List Entry) where
   module _ (a : Answer) where
     switched-tells : (b s : ℕ) → switched b s (tells g past .facts)
         ≡ factsOf o (record { nfm = b; start = s; intervals = intervalsNow g past }) old (six (left old))
-        (four (λ s. min (cond (eqb b 0) 0 (inARow g s past)) 255)) (four (λ s. cond (eqb b 0) 0 (backOffEnd g s past))) (four (λ s. standing g s past)) (mood g past)
+        (four (λ s. min (cond (eqb b 0) 0 (inARow g s past)) 255)) (four (λ s. cond (eqb b 0) 0 (backOffEnd g s past))) (four (λ s. standing g s past)) (mood g past) (dueNow g past)
     unfolding switched tells failures old o
     switched-tells b s = go (eqb b 0)
       where
         go : (x : Bool) → factsOf o (record { nfm = b; start = s; intervals = intervalsNow g past }) old (six (λ k. counter g k past))
-            (cond x idle (four (λ s. min (inARow g s past) 255))) (cond x idle (four (λ s. backOffEnd g s past))) (four (λ s. standing g s past)) (mood g past)
+            (cond x idle (four (λ s. min (inARow g s past) 255))) (cond x idle (four (λ s. backOffEnd g s past))) (four (λ s. standing g s past)) (mood g past) (dueNow g past)
             ≡ factsOf o (record { nfm = b; start = s; intervals = intervalsNow g past }) old (six (left old))
-            (four (λ s. min (cond x 0 (inARow g s past)) 255)) (four (λ s. cond x 0 (backOffEnd g s past))) (four (λ s. standing g s past)) (mood g past)
-        go true = facts-path o _ old (mood g past) (six-path still) refl refl refl
-        go false = facts-path o _ old (mood g past) (six-path still) refl refl refl
+            (four (λ s. min (cond x 0 (inARow g s past)) 255)) (four (λ s. cond x 0 (backOffEnd g s past))) (four (λ s. standing g s past)) (mood g past) (dueNow g past)
+        go true = facts-path o _ old (mood g past) (dueNow g past) (six-path still) refl refl refl
+        go false = facts-path o _ old (mood g past) (dueNow g past) (six-path still) refl refl refl
 
     line-tells : (l : Line) → obeyed l (tells g past .facts) ≡ tells g (entry (typed l) a ∷ past) .facts
-    unfolding obeyed tells lastTime nfmNow startNow intervalsNow inARow failures backOffEnd standing mood counter left old o mode
+    unfolding obeyed tells lastTime nfmNow startNow intervalsNow inARow failures backOffEnd standing mood dueNow counter left old o mode
     line-tells (nfm b) = switched-tells b (startNow g past)
     line-tells (nfm-start b s) = switched-tells b s
-    line-tells (intervals l) = facts-path o (record { nfm = nfmNow g past; start = startNow g past; intervals = l }) old (mood g past) (six-path still) refl refl refl
-    line-tells query = facts-path o mode old (mood g past) (six-path still) refl refl refl
-    line-tells bad = facts-path o mode old (mood g past) (six-path still) refl refl refl
+    line-tells (intervals l) = facts-path o (record { nfm = nfmNow g past; start = startNow g past; intervals = l }) old (mood g past) (dueNow g past) (six-path still) refl refl refl
+    line-tells query = facts-path o mode old (mood g past) (dueNow g past) (six-path still) refl refl refl
+    line-tells bad = facts-path o mode old (mood g past) (dueNow g past) (six-path still) refl refl refl
 
   -- ---- The call's own answer
 
@@ -184,9 +188,9 @@ pub record Begins (g : State) : Type 0 where
   pub standing : four (λ s. getD (g .facts .services .standing) s 0) ≡ g .facts .services .standing
 
 start-tells : (g : State) → Begins g → tells g [] ≡ g
-unfolding tells lastTime nfmNow startNow intervalsNow permits inARow failures backOffEnd standing mood counter
+unfolding tells lastTime nfmNow startNow intervalsNow permits inARow failures backOffEnd standing mood dueNow counter
 start-tells g b i = record {
-  facts = facts-path (g .facts .opening) (g .facts .mode) (g .facts .last) (g .facts .services .mood) (b .counters) (b .failures) (b .ends) (b .standing) i;
+  facts = facts-path (g .facts .opening) (g .facts .mode) (g .facts .last) (g .facts .services .mood) (g .facts .due) (b .counters) (b .failures) (b .ends) (b .standing) i;
   lists = g .lists;
 }
 
@@ -221,5 +225,6 @@ as-told g b cs =
       ends = λ s h. rw e (of-four (λ u. backOffEnd g u (told g cs)) s h);
       standings = λ s h. rw e (of-four (λ u. standing g u (told g cs)) s h);
       pdp-mood = rw e;
+      due-time = rw e;
       counters = λ k. rw e (of-six (λ j. counter g j (told g cs)) k);
     }

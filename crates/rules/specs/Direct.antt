@@ -10,9 +10,9 @@ use mathlib.Core.Logic.{_⊎_, _≢_}
 use Rattle.rules.specs.declared.Answer.{Answer}
 use Rattle.rules.specs.Calls.{Opening, Outcome, Event, ask, outcome, granted, silent, rejected, dropped, tick, Line, nfm, nfm-start, intervals, query, bad, Call, timed, typed, Entry, entry, answer}
 use Rattle.rules.specs.Causes.{action, both}
-use Rattle.rules.specs.Tables.{highestTime, inHour, freeIn, Kind, attach, activation, pdp, sms, reset, among, limiting, rank, oneMore, waitFor, scheduled}
+use Rattle.rules.specs.Tables.{highestTime, inHour, freeIn, Kind, attach, activation, pdp, sms, reset, among, limiting, rank, oneMore, waitFor, permanent, delayFor, scheduled}
 use Rattle.rules.specs.State.{State}
-use Rattle.rules.specs.Record.{lastTime, nfmNow, intervalsNow, permits, toBackOff, failures, backOffEnd, standing, mood}
+use Rattle.rules.specs.Record.{lastTime, nfmNow, intervalsNow, permits, toBackOff, failures, backOffEnd, standing, mood, dueNow}
 
 -- ---- What is in range, and well-formed
 
@@ -56,6 +56,13 @@ written bad = 0
 pub data Reached (s : ℕ) : Outcome → ℕ → Type 0 where
   itself : {o : Outcome} → Reached s o s
   registration : {cause second column u : ℕ} → both column cause ≡ true → u ≤ 1 → Reached s (rejected cause second column) u
+
+-- ---- What goes to the network: call c, answered with number n, sends request q at t. That is the
+-- request's permit, or a reset that the gate orders, which is as request 5
+
+pub data Sends (t : ℕ) : (c : Call) → (n q : ℕ) → Type 0 where
+  by-permit : {q : ℕ} → Sends t (timed t (ask q)) 0 q
+  by-order : Sends t (timed t tick) 12 5
 
 -- ---- After the record `past`, from the start g on
 
@@ -134,6 +141,20 @@ module _ (g : State) (past : List Entry) where
     backs-off : {t s : ℕ} {o : Outcome} → Accepted t (outcome s o) → toBackOff o ≡ true → nfmNow g past ≡ 1
         → BacksOff (timed t (outcome s o))
 
+  -- ---- The timed reset
+
+  -- a reset may be ordered at t: "not before the due time", "N1, if it applies, is not full", "never
+  -- while RPM is 0"; a due time of 0 is none
+  pub record Due (t : ℕ) : Type 0 where
+    pub set : dueNow g past ≢ 0
+    pub not-before : dueNow g past ≤ t
+    pub on : opening .rpm ≡ 1
+    pub not-full : Over t (opening .N1) reset → ⊥
+
+  -- "Only a clock call orders it"
+  pub data Orders : Call → Type 0 where
+    orders : {t : ℕ} → Accepted t tick → Due t → Orders (timed t tick)
+
   -- ---- "Numbers given back": call c is given an answer
 
   pub data Given : Call → Answer → Type 0 where
@@ -141,7 +162,7 @@ module _ (g : State) (past : List Entry) where
     permitted : {t q : ℕ} → Accepted t (ask q) → Free t q → WithinLimits t q → Given (timed t (ask q)) (answer 0 0)
     on-grant : {t s : ℕ} → Accepted t (outcome s granted) → Given (timed t (outcome s granted)) (answer 0 0)
     on-drop : {t : ℕ} → Accepted t dropped → Given (timed t dropped) (answer 0 0)
-    on-tick : {t : ℕ} → Accepted t tick → Given (timed t tick) (answer 0 0)
+    on-tick : {t : ℕ} → Accepted t tick → (Due t → ⊥) → Given (timed t tick) (answer 0 0)
     on-line : {l : Line} → AsAbove l → Given (typed l) (answer 0 (written l))
     -- 2, 3, 4: "Checks run in the order 1, 2, 3, 4, or 1, 5 for an AT line"
     out-of-range : {t : ℕ} {e : Event} → (InRange e → ⊥) → Given (timed t e) (answer 2 0)
@@ -157,6 +178,8 @@ module _ (g : State) (past : List Entry) where
     blocked : {t q n L : ℕ} {k : Kind} → Accepted t (ask q) → Free t q → Limited q n L k → Over t L k
         → ((n' L' : ℕ) (k' : Kind) → rank n' < rank n → Limited q n' L' k' → Over t L' k' → ⊥)
         → Until t L k (freeIn t L (permits g k past)) → Given (timed t (ask q)) (answer n (freeIn t L (permits g k past)))
+    -- 12: "answers a clock call that orders a reset, with 0"
+    ordered : {t : ℕ} → Accepted t tick → Due t → Given (timed t tick) (answer 12 0)
     -- 20: "backed off", "the wait"; "With NFM 0 .. the answer is 23 in place of 20"
     backed-off : {t s : ℕ} {o : Outcome} → Accepted t (outcome s o) → toBackOff o ≡ true → nfmNow g past ≡ 1
         → Given (timed t (outcome s o)) (answer 20 (nextWait s))
@@ -180,9 +203,10 @@ module _ (g : State) (past : List Entry) where
     pub no-permit-in-back-off : (t q : ℕ) → next (timed t (ask q)) .number ≡ 0 → Free t q
     -- "resets are not held by one"
     pub resets-not-held : (t : ℕ) → next (timed t (ask 5)) .number ≢ 10
-    -- "each permit has at most L on its list in the 3,600 seconds that end with it", itself counted
-    pub at-most : (t q : ℕ) → next (timed t (ask q)) .number ≡ 0 → (n L : ℕ) (k : Kind) → Limited q n L k → 0 < L
-        → inHour t (permits g k (entry (timed t (ask q)) (next (timed t (ask q))) ∷ past)) ≤ L
+    -- "each permit has at most L on its list in the 3,600 seconds that end with it", itself counted,
+    -- and so does each reset that is ordered
+    pub at-most : (t : ℕ) (c : Call) (q : ℕ) → Sends t c (next c .number) q → (n L : ℕ) (k : Kind) → Limited q n L k → 0 < L
+        → inHour t (permits g k (entry c (next c) ∷ past)) ≤ L
     -- "a request that passes the checks is blocked only by a rule that its permit would break"
     pub blocked-by-a-rule : (t q : ℕ) → Accepted t (ask q) → next (timed t (ask q)) .number ≢ 0
         → Breaks t q (next (timed t (ask q)) .number)
@@ -199,3 +223,14 @@ module _ (g : State) (past : List Entry) where
         → backOffEnd g u (entry (timed t (outcome s o)) (next (timed t (outcome s o))) ∷ past) ≡ t + nextWait u
     pub and-no-other : (t s : ℕ) (o : Outcome) → BacksOff (timed t (outcome s o)) → (u : ℕ) → (Reached s o u → ⊥)
         → backOffEnd g u (entry (timed t (outcome s o)) (next (timed t (outcome s o))) ∷ past) ≡ backOffEnd g u past
+    -- a reset is ordered by the first clock call that may, and by nothing else
+    pub orders-then : (c : Call) → Orders c → next c ≡ answer 12 0
+    pub orders-only-then : (c : Call) → next c .number ≡ 12 → Orders c
+    -- "makes all services idle as request 5 does and ends the due time"
+    pub idle-then : (c : Call) → Orders c → (s : ℕ) → standing g s (entry c (next c) ∷ past) ≡ 0
+    pub due-no-more : (c : Call) → Orders c → dueNow g (entry c (next c) ∷ past) ≡ 0
+    -- "RPM shall wait for time T1 and reset": T1 runs from a permanent rejection, while RPM is 1
+    pub T1-runs : (t s cause second column : ℕ) → Accepted t (outcome s (rejected cause second column)) → permanent column cause ≡ true
+        → 0 < opening .T1 → opening .rpm ≡ 1 → dueNow g past ≡ 0
+        → dueNow g (entry (timed t (outcome s (rejected cause second column))) (next (timed t (outcome s (rejected cause second column)))) ∷ past)
+        ≡ t + delayFor (opening .imsi) (opening .T1)

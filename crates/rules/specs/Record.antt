@@ -6,10 +6,10 @@ use mathlib.Core.Bool.{Bool, true, false, cond, _&&_}
 use mathlib.Core.List.{List, [], _∷_, _++_}
 use lib.ListN.{getD}
 use lib.Dec.{ltb, leb, eqb}
-use Rattle.rules.specs.Calls.{Counter, Outcome, ask, outcome, granted, silent, rejected, dropped, tick, nfm, nfm-start, intervals, query, bad, Call, timed, typed, Entry}
+use Rattle.rules.specs.Calls.{Opening, Counter, Outcome, ask, outcome, granted, silent, rejected, dropped, tick, nfm, nfm-start, intervals, query, bad, Call, timed, typed, Entry}
 use Rattle.rules.specs.State.{State}
 use Rattle.rules.specs.Causes.{action, both, reaches}
-use Rattle.rules.specs.Tables.{Kind, goes, moodOn, oneMore, waitFor, rateOf, raises, ofSix}
+use Rattle.rules.specs.Tables.{Kind, goes, moodOn, oneMore, waitFor, permanent, delayFor, rateOf, raises, ofSix}
 
 -- ---- The last time: that of the newest timed call, and before any the start's
 
@@ -63,13 +63,13 @@ intervalsNow g [] = g .facts .mode .intervals
 intervalsNow g (x ∷ past) = intervalsAfter (x .call) (intervalsNow g past)
 
 -- ---- The permits of list k, oldest first: the start's, and the times of the requests that go
--- there and were answered 0
+-- there and were answered 0; a clock call that was answered 12 is a reset, as request 5
 
 abbrev pub permitIn : Kind → Call → ℕ → List ℕ
 permitIn k (timed t (ask q)) n = cond (eqb n 0 && goes q k) (t ∷ []) []
 permitIn k (timed t (outcome s o)) n = []
 permitIn k (timed t dropped) n = []
-permitIn k (timed t tick) n = []
+permitIn k (timed t tick) n = cond (eqb n 12 && goes 5 k) (t ∷ []) []
 permitIn k (typed l) n = []
 
 unfoldable pub permits : State → Kind → List Entry → List ℕ
@@ -134,7 +134,8 @@ backOffEnd g s (x ∷ past) =
 
 -- ---- The standing of service s: 0 idle, 1 asked, 2 up
 
--- a permit makes its service asked; of request 4, service 2 idle; of request 5, all idle
+-- a permit makes its service asked; of request 4, service 2 idle; of request 5, all idle, as an
+-- ordered reset does
 abbrev pub standsAsked : ℕ → ℕ → ℕ → ℕ
 standsAsked s q before = cond (leb q 3) (cond (eqb q s) 1 before) (cond (eqb q 4) (cond (eqb 2 s) 0 before) 0)
 
@@ -144,7 +145,7 @@ standsAfter s (timed t (outcome u granted)) n before = cond (eqb u s) (cond (eqb
 standsAfter s (timed t (outcome u silent)) n before = cond (eqb u s) 0 before
 standsAfter s (timed t (outcome u (rejected cause second column))) n before = cond (eqb u s) 0 before
 standsAfter s (timed t dropped) n before = cond (eqb 2 s) 0 before
-standsAfter s (timed t tick) n before = before
+standsAfter s (timed t tick) n before = cond (eqb n 12) 0 before
 standsAfter s (typed l) n before = before
 
 unfoldable pub standing : State → ℕ → List Entry → ℕ
@@ -166,6 +167,26 @@ unfoldable pub mood : State → List Entry → ℕ
 mood g [] = g .facts .services .mood
 mood g (x ∷ past) = moodAfter (x .call) (mood g past)
 
+-- ---- The due time of the timed reset; 0 is none
+
+-- an outcome that T1 waits from: a permanent rejection, while T1 is above 0 and RPM is 1
+abbrev pub startsT1 : Opening → Outcome → Bool
+startsT1 o granted = false
+startsT1 o silent = false
+startsT1 o (rejected cause second column) = permanent column cause && (ltb 0 (o .T1) && eqb (o .rpm) 1)
+
+-- one that is set stays, until the module is reset: by a permitted request 5, or as it is ordered
+abbrev pub dueAfter : Opening → Call → ℕ → ℕ → ℕ
+dueAfter o (timed t (ask q)) n before = cond (eqb n 0 && eqb q 5) 0 before
+dueAfter o (timed t (outcome s x)) n before = cond (startsT1 o x && eqb before 0) (t + delayFor (o .imsi) (o .T1)) before
+dueAfter o (timed t dropped) n before = before
+dueAfter o (timed t tick) n before = cond (eqb n 12) 0 before
+dueAfter o (typed l) n before = before
+
+unfoldable pub dueNow : State → List Entry → ℕ
+dueNow g [] = g .facts .due
+dueNow g (x ∷ past) = dueAfter (g .facts .opening) (x .call) (x .answer .number) (dueNow g past)
+
 -- ---- The card's counters
 
 -- p is a leak point: the opening time plus a positive multiple of rate x 3,600 s; a rate of zero
@@ -181,16 +202,16 @@ leaked opened rate old (suc n) counter =
     let left = leaked opened rate old n counter in
     cond (leakPoint opened rate (old + suc n)) (left - 1) left
 
--- a request that was blocked by the limit of counter k
+-- a request that was blocked by the limit of counter k, or a reset that was ordered
 abbrev pub blocksOn : Counter → Call → ℕ → Bool
 blocksOn k (timed t (ask q)) n = raises k n
 blocksOn k (timed t (outcome s o)) n = false
 blocksOn k (timed t dropped) n = false
-blocksOn k (timed t tick) n = false
+blocksOn k (timed t tick) n = raises k n
 blocksOn k (typed l) n = false
 
--- counter k: the start's; a call leaks from the old time to its own, and then its own block adds
--- one, to 255 at most
+-- counter k: the start's; a call leaks from the old time to its own, and then its own block or
+-- reset adds one, to 255 at most
 unfoldable pub counter : State → Counter → List Entry → ℕ
 counter g k [] = ofSix (g .facts .counters) k
 counter g k (x ∷ past) =

@@ -1,14 +1,14 @@
 -- The rules: what the gate knows, how it answers a call by that, and what it knows after the answer. Assumes nothing.
 use Prim.Native.Nat.{ℕ, _+_, _-_, _*_, _/_}
-use mathlib.Core.Bool.{Bool, true, false, cond, _&&_, _||_}
+use mathlib.Core.Bool.{Bool, true, false, cond, not, _&&_, _||_}
 use mathlib.Core.List.{List, [], _∷_, _++_}
 use lib.ListN.{length, getD, set, drop}
 use lib.Dec.{ltb, leb, eqb}
 use Rattle.rules.specs.declared.Answer.{Answer}
 use Rattle.rules.specs.Calls.{Outcome, Event, ask, outcome, granted, silent, rejected, dropped, tick, Line, nfm, nfm-start, intervals, query, bad, Call, timed, typed, answer}
-use Rattle.rules.specs.State.{Facts, Services, State, withLast, withMode, withCounters, withServices, withStanding, withBackoffs, idle}
+use Rattle.rules.specs.State.{Facts, Services, State, withLast, withMode, withCounters, withServices, withDue, withStanding, withBackoffs, idle}
 use Rattle.rules.specs.Causes.{action, both, reaches, belongs}
-use Rattle.rules.specs.Tables.{highestTime, inHour, freeIn, Kind, attach, activation, pdp, sms, reset, goes, among, refusals, counting, moodOn, oneMore, waitFor, scheduled, four}
+use Rattle.rules.specs.Tables.{highestTime, inHour, freeIn, Kind, attach, activation, pdp, sms, reset, goes, among, refusals, counting, moodOn, oneMore, waitFor, permanent, delayFor, scheduled, four}
 
 -- ---- The limits
 
@@ -100,6 +100,13 @@ wait f s = waitFor (f .opening .imsi) (f .mode .intervals) (oneMore (getD (f .se
 unfoldable pub failed : Facts → ℕ → ℕ → Answer
 failed f s n = cond (eqb n 20) (cond (eqb (f .mode .nfm) 1) (answer 20 (wait f s)) (answer 23 0)) (answer n 0)
 
+-- a clock call at t orders a reset: one is due, and not after t, RPM is 1, and N1 does not block
+unfoldable pub orders : State → ℕ → Bool
+orders w t =
+    let o = w .facts .opening in
+    let due = w .facts .due in
+    (ltb 0 due && leb due t) && (eqb (o .rpm) 1 && not (blocks w t (limit 11 true (o .N1) reset)))
+
 -- the answer to a call that no check refuses; to an AT line the bytes of OK CR LF, and for the read those of +NFM: a,s CR LF besides
 unfoldable pub verdict : State → Call → Answer
 verdict w (timed t (ask q)) =
@@ -110,7 +117,7 @@ verdict w (timed t (outcome s granted)) = answer 0 0
 verdict w (timed t (outcome s silent)) = failed (w .facts) s 20
 verdict w (timed t (outcome s (rejected cause second column))) = failed (w .facts) s (action column cause second)
 verdict w (timed t dropped) = answer 0 0
-verdict w (timed t tick) = answer 0 0
+verdict w (timed t tick) = cond (orders w t) (answer 12 0) (answer 0 0)
 verdict w (typed (nfm a)) = answer 0 4
 verdict w (typed (nfm-start a s)) = answer 0 4
 verdict w (typed (intervals l)) = answer 0 4
@@ -146,7 +153,7 @@ moved t f =
     ∷ drained f t (o .LR3) 5
     ∷ [])
 
--- a block by N1 or F1-F4 raises its counter
+-- a block by N1 or F1-F4, and an ordered reset, raises its counter
 abbrev pub raised : ℕ → List ℕ → List ℕ
 raised i l = set l i (oneMore (getD l i 0))
 
@@ -184,14 +191,28 @@ onOutcome t s granted a f = onGranted s (f .services)
 onOutcome t s silent a f = onFailed t s (eqb (a .number) 20) false 1 f
 onOutcome t s (rejected cause second column) a f = onFailed t s (eqb (a .number) 20) (both column cause) (moodOn cause) f
 
--- what event e at t, answered a, does beyond the clock
+-- the due time after outcome o at t: a permanent rejection sets it, while T1 is above 0 and RPM is
+-- 1, unless one is set
+unfoldable pub dueOn : ℕ → Outcome → Facts → ℕ
+dueOn t granted f = f .due
+dueOn t silent f = f .due
+dueOn t (rejected cause second column) f =
+    let o = f .opening in
+    cond ((permanent column cause && (ltb 0 (o .T1) && eqb (o .rpm) 1)) && eqb (f .due) 0) (t + delayFor (o .imsi) (o .T1)) (f .due)
+
+-- what event e at t, answered a, does beyond the clock; a reset, asked for or ordered, ends the due
+-- time
 unfoldable pub acted : ℕ → Event → Answer → Facts → Facts
 acted t (ask q) a f =
     let v = f .services in
-    withServices (withCounters f (counted (a .number) (f .counters))) (withStanding v (cond (eqb (a .number) 0) (asked q (v .standing)) (v .standing)))
-acted t (outcome s o) a f = withServices f (onOutcome t s o a f)
+    withDue (withServices (withCounters f (counted (a .number) (f .counters))) (withStanding v (cond (eqb (a .number) 0) (asked q (v .standing)) (v .standing))))
+    (cond (eqb (a .number) 0 && eqb q 5) 0 (f .due))
+acted t (outcome s o) a f = withDue (withServices f (onOutcome t s o a f)) (dueOn t o f)
 acted t dropped a f = withServices f (withStanding (f .services) (set (f .services .standing) 2 0))
-acted t tick a f = f
+acted t tick a f =
+    let v = f .services in
+    withDue (withServices (withCounters f (counted (a .number) (f .counters))) (withStanding v (cond (eqb (a .number) 12) idle (v .standing))))
+    (cond (eqb (a .number) 12) 0 (f .due))
 
 -- AT+NFM=a,s: with a = 0 failures and ends become 0
 unfoldable pub switched : ℕ → ℕ → Facts → Facts
@@ -212,12 +233,13 @@ unfoldable pub changed : Call → Answer → Facts → Facts
 changed (timed t e) a f = acted t e a (moved t f)
 changed (typed l) a f = obeyed l f
 
--- event e, answered n, enters list k: a request that is permitted, and nothing else
+-- event e, answered n, enters list k: a request that is permitted, or an ordered reset, which is as
+-- request 5
 unfoldable pub enters : Event → ℕ → Kind → Bool
 enters (ask q) n k = eqb n 0 && goes q k
 enters (outcome s o) n k = false
 enters dropped n k = false
-enters tick n k = false
+enters tick n k = eqb n 12 && goes 5 k
 
 -- the times that an answered call adds to list k
 unfoldable pub adds : Kind → Call → Answer → List ℕ

@@ -1,5 +1,5 @@
 -- Document 01's tables and formulas that hang on nothing but their arguments. Assumes nothing.
-use Prim.Native.Nat.{ℕ, suc, _+_, _-_, _%_, min}
+use Prim.Native.Nat.{ℕ, suc, _+_, _-_, _*_, _%_, min}
 use mathlib.Core.Bool.{Bool, true, false, cond, _&&_, _||_}
 use mathlib.Core.List.{List, [], _∷_}
 use lib.ListN.{length, getD}
@@ -66,9 +66,9 @@ placeIn (x ∷ l) c = cond (eqb c x) 0 (suc (placeIn l c))
 abbrev pub rank : ℕ → ℕ
 rank n = placeIn limiting n
 
--- the blocks by N1 and F1-F4: n raises counter n - 11 of the six
+-- the blocks by N1 and F1-F4, and 12, a reset that is ordered: n raises counter n - 11 of the six
 abbrev pub counting : List ℕ
-counting = 11 ∷ 13 ∷ 14 ∷ 15 ∷ 16 ∷ []
+counting = 11 ∷ 12 ∷ 13 ∷ 14 ∷ 15 ∷ 16 ∷ []
 
 -- ---- The mood on a cause
 
@@ -90,6 +90,20 @@ interval l n = getD l (min n (length l) - 1) 0
 unfoldable pub waitFor : ℕ → List ℕ → ℕ → ℕ
 waitFor imsi l n = interval l n + drawn imsi n % interval l n
 
+-- ---- The timed reset
+
+-- the "permanent" rejections of RMM6, CLP.03: MM 2, 3 and 6; GMM 2, 3, 6, 7 and 8
+unfoldable pub permanent : (column cause : ℕ) → Bool
+permanent column cause =
+    (eqb column 0 && among cause (2 ∷ 3 ∷ 6 ∷ [])) || (eqb column 1 && among cause (2 ∷ 3 ∷ 6 ∷ 7 ∷ 8 ∷ []))
+
+-- how long after one the module is reset. T1 counts 6 minutes on average (8.3.2), in a window of a
+-- tenth less to a tenth more (RTC1), both ends in it: 72 T1 + 1 seconds, of which the card draws one
+unfoldable pub delayFor : (imsi T1 : ℕ) → ℕ
+delayFor imsi T1 = 324 * T1 + drawn imsi 0 % (72 * T1 + 1)
+
+-- ---- Intervals
+
 -- none is below the one before it, the first not below lo, and none is above hi
 unfoldable pub ascending : ℕ → ℕ → List ℕ → Bool
 ascending lo hi [] = true
@@ -110,10 +124,10 @@ rateOf o C-PDP-2 = o .LR3
 rateOf o C-PDP-3 = o .LR3
 rateOf o C-PDP-4 = o .LR3
 
--- a block by N1 or F1-F4, answered n, adds to its own counter; C-R-1 has none
+-- a block by N1 or F1-F4, answered n, adds to its own counter, and an ordered reset to C-R-1
 abbrev pub raises : Counter → ℕ → Bool
 raises C-BR-1 n = eqb n 11
-raises C-R-1 n = false
+raises C-R-1 n = eqb n 12
 raises C-PDP-1 n = eqb n 13
 raises C-PDP-2 n = eqb n 14
 raises C-PDP-3 n = eqb n 15

@@ -8,7 +8,7 @@ use lib.ListN.{getD}
 use Rattle.rules.specs.declared.Answer.{Answer}
 use Rattle.rules.specs.Calls.{Counter, Call, Entry, entry}
 use Rattle.rules.specs.Tables.{Kind, four, six, ofSix}
-use Rattle.rules.specs.Record.{lastTime, nfmNow, startNow, intervalsNow, permits, failures, backOffEnd, standing, mood, counter}
+use Rattle.rules.specs.Record.{lastTime, nfmNow, startNow, intervalsNow, permits, failures, backOffEnd, standing, mood, dueNow, counter}
 use Rattle.rules.specs.Rules.{ruling, refused, known}
 use Rattle.rules.specs.State.{State}
 
@@ -25,6 +25,7 @@ tells g past = record {
       standing = four (λ s. standing g s past);
       mood = mood g past;
     };
+    due = dueNow g past;
   };
   lists = λ k. permits g k past;
 }
@@ -62,4 +63,5 @@ pub record AsTold (g : State) (cs : List Call) : Type 0 where
   pub ends : (s : ℕ) → s ≤ 3 → getD (known g cs .facts .services .ends) s 0 ≡ backOffEnd g s (told g cs)
   pub standings : (s : ℕ) → s ≤ 3 → getD (known g cs .facts .services .standing) s 0 ≡ standing g s (told g cs)
   pub pdp-mood : known g cs .facts .services .mood ≡ mood g (told g cs)
+  pub due-time : known g cs .facts .due ≡ dueNow g (told g cs)
   pub counters : (k : Counter) → ofSix (known g cs .facts .counters) k ≡ counter g k (told g cs)

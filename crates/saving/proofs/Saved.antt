@@ -7,10 +7,10 @@ use lib.Dec.{eqb}
 use lib.ListN.{length, getD}
 use Rattle.rules.specs.Calls.{answer}
 use Rattle.buffer.specs.Places.{COUNTERS}
-use Rattle.buffer.specs.Layout.{factsOf, view}
+use Rattle.buffer.specs.Layout.{factsOf}
 use Rattle.buffer.specs.Good.{good}
-use Rattle.buffer.proofs.Goodness.{at-most, valid-view}
-use Rattle.buffer.proofs.Sane.{valid-facts}
+use Rattle.buffer.proofs.Goodness.{at-most}
+use Rattle.buffer.proofs.Sane.{good-sane}
 use Rattle.buffer.proofs.Laid.{laid-good, counter-at}
 use Rattle.card.specs.Card.{written}
 use Rattle.saving.specs.Save.{saves, SaveSays}
@@ -20,7 +20,7 @@ module _ (b : List ℕ) (g : good b ≡ true) (i : ℕ) (h : i < 6) where
   counter-is = counter-at (laid-good b g) i h
 
   pub counter-byte : getD b (COUNTERS + i) 0 ≤ 255
-  counter-byte = rw counter-is (at-most 255 (factsOf b .counters) (valid-facts (view b) (valid-view b g) .sane .counters .small) i)
+  counter-byte = rw counter-is (at-most 255 (factsOf b .counters) (good-sane b g .counters .small) i)
 
 -- the two refusals, and the file written
 module _ {b out : List ℕ} where

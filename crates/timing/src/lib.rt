@@ -56,7 +56,7 @@ pub extern "C" fn timing_tick_in(s: &mut [u32], t: u32) -> Answer
     requires { ⌜ good (now s) ≡ true ⌝ }
     ensures { λ r. ⌜ Says (now (s .entry)) (timed t tick) r (now (s .exit)) ⌝ }
 {
-    clock::tick_in(s, t)
+    ticking::tick_in(s, t)
 }
 
 // A request.

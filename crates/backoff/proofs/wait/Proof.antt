@@ -1,7 +1,8 @@
 -- `backoff::wait` meets its contract. Assumes nothing.
 use native.Mathlib.Omega.{arith}
 use borrow.Author.Needs.{needs}
-use Rattle.backoff.proofs.Backoffs.{base-range, failures-low, imsi-low, waits}
+use Rattle.buffer.proofs.Sane.{imsi-low}
+use Rattle.backoff.proofs.Backoffs.{base-range, failures-low, waits}
 use Rattle.backoff.proofs.wait.Statement.{statement}
 use Rattle.backoff.proofs.wait.Tie as tie
 
