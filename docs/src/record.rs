@@ -1,8 +1,9 @@
 //! The trace program of document 01, answered from the full record: the time of every permit since
 //! the last accepted opening stays in memory, none goes at 255, and each limit counts over these.
-//! Written from document 01, for the wait from request §3, for a limit's seconds from request §4
-//! and for the causes from request §6 with section 7.5 of 000, and from nothing else, to be read
-//! beside it, section by section.
+//! Written from document 01, for the wait from request §3, for a limit's seconds from request §4,
+//! for the causes from request §6 with section 7.5 of 000 and for the timed reset from request §7
+//! with RMM6 to RMM8 and RTC1 of 000, and from nothing else, to be read beside it, section by
+//! section.
 //! It goes from standard input to standard output: `rustc -O --edition 2021 docs/src/record.rs -o record && ./record < trace`.
 use std::io::{self, BufRead, Read, Write};
 
@@ -60,7 +61,10 @@ struct Record {
     activation: Vec<u64>,
     pdp: Vec<u64>,
     sms: Vec<u64>,
+    /// Those of request 5, and the resets that were ordered.
     reset: Vec<u64>,
+    /// When the timed reset is due, while one is waited for.
+    due: Option<u64>,
 }
 
 /// 1 to 10 intervals, 1 to 65,535 s, none below the one before.
@@ -160,6 +164,7 @@ impl Record {
             pdp: Vec::new(),
             sms: Vec::new(),
             reset: Vec::new(),
+            due: None,
         })
     }
 
@@ -174,7 +179,7 @@ impl Record {
         if request <= 3 && t < self.ends[request as usize] {
             return Ok((10, self.ends[request as usize] - t));
         }
-        let [n1, _t1, f1, f2, f3, f4] = self.parameters;
+        let [n1, _, f1, f2, f3, f4] = self.parameters;
         let limits = [
             (11, self.rpm && request == 5, n1, &self.reset),
             (13, self.rpm && request == 2 && self.mood == Mood::Ignored, f1, &self.activation),
@@ -212,7 +217,11 @@ impl Record {
         match request {
             0..=3 => self.standing[request as usize] = Standing::Asked,
             4 => self.standing[2] = Standing::Idle,
-            _ => self.standing = [Standing::Idle; 4],
+            _ => {
+                self.standing = [Standing::Idle; 4];
+                // RMM8: the timer is stopped when the module is reset.
+                self.due = None;
+            }
         }
         Ok((0, 0))
     }
@@ -245,6 +254,7 @@ impl Record {
                 _ => Mood::Temporary,
             };
         }
+        self.wait_for_reset(t, column, cause);
         Ok(match proposed(column, cause) {
             Action::BackOff => self.back_off(t, service),
             Action::BothBackOff => {
@@ -291,11 +301,39 @@ impl Record {
         (20, wait)
     }
 
+    // Request §7, the timed reset
+
+    /// RMM6: a permanent reject sets the timer, "disabled if T1 is set to 0", unless it runs. T1 is
+    /// in units of 360 s; RTC1 has it within a tenth of that, both ends included: 72 T1 + 1 seconds
+    /// to draw from.
+    fn wait_for_reset(&mut self, t: u64, column: u64, cause: u64) {
+        let t1 = self.parameters[1];
+        let permanent = matches!((column, cause), (MM, 2 | 3 | 6) | (GMM, 2 | 3 | 6 | 7 | 8));
+        if self.rpm && t1 > 0 && permanent && self.due.is_none() {
+            self.due = Some(t + 324 * t1 + drawn(self.imsi, 0) % (72 * t1 + 1));
+        }
+    }
+
+    /// Is the reset to be ordered at t? "Not before the due time", while N1, if it applies, is not
+    /// full, "and never while RPM is 0".
+    fn orders(&self, t: u64) -> bool {
+        let n1 = self.parameters[0];
+        let full = n1 > 0 && in_the_hour(&self.reset, t) >= n1;
+        self.rpm && !full && self.due.is_some_and(|due| due <= t)
+    }
+
     // Clock and leaks
 
     fn clock(&mut self, t: u64) -> Result<Answer, Refusal> {
         self.accept(t, true, true)?;
-        Ok((0, 0))
+        if !self.orders(t) {
+            return Ok((0, 0));
+        }
+        self.counters[1] = 255.min(self.counters[1] + 1);
+        self.reset.push(t);
+        self.standing = [Standing::Idle; 4];
+        self.due = None;
+        Ok((12, 0))
     }
 
     /// Checks 2, 3 and 4 of a timed call. One that passes them first moves the clock.
