@@ -1,9 +1,9 @@
 #!/usr/bin/env python3
 """make.py SEED COUNT: COUNT made traces in one stream, for the trace program of document 01. Some lines come before any `O`; then each trace
 begins with one, mostly taken. One trace in a hundred fills a list, one in sixty comes back to a
-limit at the edges of its seconds, and one in twenty is of the two registrations, which some causes
-hold together. The generator keeps an idea of where a trace stands, so that most lines pass the
-checks and many times fall on an edge."""
+limit at the edges of its seconds, one in twenty is of the two registrations, which some causes
+hold together, and one in ten of the timed reset. The generator keeps an idea of where a trace
+stands, so that most lines pass the checks and many times fall on an edge."""
 import random
 import sys
 
@@ -19,6 +19,11 @@ BACKING = ({2, 3, 5, 6, 8, 9, 17, 22, 34}, {2, 3, 6, 7, 8, 9, 16, 17, 22}, {8, 2
 BOTH = ({8, 9}, {2, 3, 6, 8, 9}, set(), set(), set())
 OTHERS = ({4, 11, 12, 13, 15, 20, 21, 23, 32, 33, 38, 40}, {10, 11, 12, 13, 14, 15, 20, 21},
           {28, 36, 37, 39, 40, 43, 56, 112}, set(), set())
+# by column: the causes on which a reset becomes due; and each of these, with what comes near: a
+# column and a cause, or silence of that column's service
+SETTING = ({2, 3, 6}, {2, 3, 6, 7, 8}, set(), set(), set())
+FOR_GOOD = tuple((column, cause) for column in (0, 1) for cause in sorted(SETTING[column]))
+NEARLY = ((0, 5), (0, 8), (1, 9), (0, None), (1, None), (0, 7), (0, 9), (1, 5), (1, 16), (2, 8), (3, 8))
 LISTS = ((0,), (0,), (1, 2), (3,), (2,), (4,))  # by request: attach 0, activation 1, PDP 2, SMS 3, reset 4
 
 
@@ -30,6 +35,11 @@ def drawn(imsi, n):
     return x
 
 
+def delay(imsi, t1):
+    """From a permanent rejection until its reset is due."""
+    return 324 * t1 + drawn(imsi, 0) % (72 * t1 + 1)
+
+
 class Idea:
     """Where a trace stands. It steers the generator and judges no answer."""
 
@@ -38,6 +48,7 @@ class Idea:
         self.nfm, self.mood = True, 0
         self.standing, self.failures, self.ends = [0] * 4, [0] * 4, [0] * 4
         self.lists = [[], [], [], [], []]
+        self.due = 0
 
     def limits(self, request):
         """The limits that may meet a request, each with its list."""
@@ -60,7 +71,7 @@ class Idea:
         for k in LISTS[request]:
             self.lists[k].append(t)
         if request == 5:
-            self.standing = [0] * 4
+            self.standing, self.due = [0] * 4, 0
         elif request == 4:
             self.standing[2] = 0
         else:
@@ -73,6 +84,8 @@ class Idea:
         if letter == "J" and column not in COLUMNS[service]:
             return
         self.t, self.standing[service] = t, 0
+        if letter == "J" and cause in SETTING[column] and self.parameters[1] and not self.due:
+            self.due = t + delay(self.imsi, self.parameters[1])
         if letter == "G":
             self.failures[service] = self.ends[service] = 0
             if service == 2:
@@ -93,9 +106,21 @@ class Idea:
         if self.t <= t <= LATEST and self.standing[2] == 2:
             self.t, self.standing[2] = t, 0
 
+    def full(self, t):
+        """Would N1 hold back a reset at t?"""
+        n1, times = self.parameters[0], self.lists[4]
+        return 0 < n1 <= len(times) and times[-n1] + HOUR > t
+
     def clock(self, t):
-        if self.t <= t <= LATEST:
-            self.t = t
+        """True when a reset is ordered."""
+        if not self.t <= t <= LATEST:
+            return False
+        self.t = t
+        if not 0 < self.due <= t or self.full(t):
+            return False
+        self.lists[4].append(t)
+        self.standing, self.due = [0] * 4, 0
+        return True
 
     def flag(self, a):
         self.nfm = a == 1
@@ -199,10 +224,10 @@ class Maker:
     # Times
 
     def edge(self):
-        """A time next to where a back-off ends or a permit leaves the hour, or None."""
+        """A time next to where a back-off ends, a reset is due or a permit leaves the hour, or None."""
         r, idea = self.r, self.idea
         if r.random() < 0.5:
-            near = [end + d for end in idea.ends if end for d in (-1, 0, 1)]
+            near = [end + d for end in (*idea.ends, idea.due) if end for d in (-1, 0, 1)]
         else:
             times = r.choice(idea.lists)
             limits = (idea.a1, r.choice(idea.parameters[2:5]), idea.parameters[5], idea.s1, idea.parameters[0])
@@ -271,7 +296,7 @@ class Maker:
     def call(self):
         r, standing = self.r, self.idea.standing
         x = r.random()
-        if x < 0.04:
+        if x < 0.04 or self.idea.due and x > 0.9:
             return "T", self.time()
         if x < 0.10:
             return self.blind()
@@ -594,6 +619,103 @@ class Maker:
             self.act(("T", self.idea.t + HOUR + r.choice((0, 1, 1000))))
         self.mixed(20)
 
+    def timed(self, which):
+        """A service is rejected for good, or nearly so, by `which`, up to three times; clock calls
+        come about the second in which a reset is due, or would be. By turns T1 is 0, or that second
+        is one of the latest that there are."""
+        r = self.r
+        self.manner()
+        imsi = r.choice((1_010_123_456_789, 0, r.randrange(10**15), 10**15 - 1))
+        t1 = 0 if which % 12 == 5 else r.choice((1, 1, 1, 2, 2, 10, 10, 255, r.randint(1, 255)))
+        n1 = r.choice((0, 0, 1, 1, 1, 2, 3, 20, 255))
+        late = which % 4 == 3
+        t = LATEST - delay(imsi, t1) + r.choice((-3, -2, -1, -1, 0, 0, 1)) if late else r.choice((0, 1000, r.randrange(LATEST // 2)))
+        fixed = {"imsi": imsi, "intervals": r.choice(([1], [2, 3], [60, 120, 240], [600, 6000], [65_535])),
+                 "parameters": [n1, t1, 0, 0, 0, r.choice((0, 0, 2))], "a1": r.choice((0, 0, 4)), "s1": 0}
+        self.open(t=min(t, LATEST), **fixed)
+        causes = FOR_GOOD if late else FOR_GOOD + NEARLY
+        for again in range(r.choice((1, 2, 2, 3))):
+            if n1 and not late and r.random() < 0.4:
+                self.fill_up()
+            due = self.failed(*causes[which % len(causes)] if not again and not late else r.choice(causes))
+            self.meanwhile(due)
+            if r.random() < 0.1:
+                self.open(t=self.idea.t, **fixed)
+            self.about(due)
+        self.mixed(10)
+
+    def fill_up(self):
+        """Resets, as many as N1 lets through."""
+        while not self.idea.full(self.idea.t):
+            self.act(("Q", self.idea.t + self.r.choice((0, 0, 0, 0, 1)), 5))
+
+    def failed(self, column, cause):
+        """A service asked when its back-off is over, and rejected by that cause, or ignored where
+        there is none. Gives back when a reset is due after that, or would be."""
+        r, idea = self.r, self.idea
+        if idea.standing[column] == 2:
+            self.act(("D", idea.t))
+        if idea.standing[column] == 0:
+            self.act(("Q", max(idea.t, idea.ends[column]), column))
+        t = idea.t + r.choice((0, 0, 1, 2))
+        self.act(("S", t, column) if cause is None else ("J", t, column, cause, r.choice((0, 1)), column))
+        return idea.due or t + delay(idea.imsi, idea.parameters[1])
+
+    def meanwhile(self, due):
+        """Calls up to that second, of which a reset alone would end the wait."""
+        r, idea = self.r, self.idea
+        for _ in range(r.choice((0, 1, 2, 3, 6))):
+            t = max(idea.t, min(idea.t + r.choice((0, 1, 10, 60, 200)), due))
+            some = [("A", b"AT+NFM=0", 0, None), ("A", b"AT+NFM=1,1", 1, None), self.at_call(),
+                    ("Q", t, r.randrange(6)), ("T", max(idea.t, min(t, due - 1)))]
+            for service in range(4):
+                if idea.standing[service] == 0:
+                    some.append(("Q", max(t, min(due, idea.ends[service])), service))
+                elif idea.standing[service] == 1:
+                    some += [("G", t, service), ("S", t, service), self.rejection(service)]
+                else:
+                    some += 3 * [("D", t), ("Q", t, 4)]
+                if service < 2 and idea.standing[service] == 1:
+                    some += 2 * [("J", t, service, r.choice(sorted(SETTING[service])), 0, service)]
+            self.act(r.choice(some))
+
+    def about(self, due):
+        """The second before that one, that one and later ones: clock calls, and before the last of
+        them a request, a reset or one more rejection; then what an ordered reset has left."""
+        r, idea = self.r, self.idea
+        if r.random() < 0.5:
+            for service in range(4):
+                self.act(("Q", idea.t, service))
+            if idea.standing[2] == 1 and r.random() < 0.5:
+                self.act(("G", idea.t, 2))
+        if due > idea.t and r.random() < 0.7:
+            self.act(("T", due - 1))
+        x = r.random()
+        if x < 0.15:
+            self.act(("Q", max(idea.t, due - r.choice((1, 1, 20))), 5))
+        elif x < 0.3:
+            self.act(("Q", max(idea.t, due + r.choice((0, 0, 1, 9))), 5))
+        elif x < 0.45:
+            if r.random() < 0.6:
+                self.act(("Q", max(idea.t, due), 3))
+            self.failed(*r.choice(FOR_GOOD))
+        elif x < 0.6:
+            self.act(("Q", max(idea.t, due), r.choice((0, 1, 2, 3))))
+        asked = [service for service in range(4) if idea.standing[service]]
+        then = max(idea.t, due + r.choice((0, 0, 0, 1, 40, 5000)))
+        self.act(("T", LATEST if due <= LATEST < then else then))
+        if idea.due and idea.full(idea.t):
+            leaves = idea.lists[4][-idea.parameters[0]] + HOUR
+            if r.random() < 0.5:
+                self.act(("Q", idea.t, 5))
+            self.act(("T", leaves - 1))
+            self.act(("T", leaves + r.choice((0, 0, 1))))
+        self.act(("T", idea.t))
+        for service in asked:
+            self.act(r.choice((("G", idea.t, service), ("S", idea.t, service), ("J", idea.t, service, 2, 0, service), ("D", idea.t))))
+        for request in r.sample((0, 1, 2, 3, 4, 5, 5), 3):
+            self.act(("Q", idea.t + r.choice((0, 0, 1, 30)), request))
+
     def sent(self, t, request, outcome):
         """A request and, unless it is a reset, its outcome in the same second; PDP is then dropped."""
         self.act(("Q", t, request))
@@ -639,6 +761,8 @@ def stream(seed, count):
             maker.paired()
         elif i % 60 == 22:
             maker.pending()
+        elif i % 10 == 3:
+            maker.timed(i // 10)
         else:
             maker.plain()
     return b"\n".join(maker.lines) + maker.r.choice((b"", b"\n"))
