@@ -1,5 +1,6 @@
 //! One call made twice, by the linked library and by the model, and all that is compared afterwards.
 use crate::columns::other_stands;
+use crate::due::Waiting;
 use crate::gate::c;
 use crate::model::{self, *};
 use crate::random::Random;
@@ -82,6 +83,7 @@ impl Opening {
 }
 
 /// A call with its arguments, all but the state. `Error` is given none, and must leave it alone.
+/// `Turn` writes there what it makes of an older one.
 #[derive(Clone, Debug)]
 pub enum Call {
     Open(Opening),
@@ -95,6 +97,7 @@ pub enum Call {
     Counters { room: usize },
     Why { time: u32, kind: u32, room: usize },
     Error { column: u32, cause: u32 },
+    Turn { old: Vec<u32> },
 }
 
 impl Call {
@@ -111,6 +114,7 @@ impl Call {
             Call::Counters { .. } => "counters",
             Call::Why { .. } => "why",
             Call::Error { .. } => "error",
+            Call::Turn { .. } => "turn",
         }
     }
 }
@@ -140,10 +144,12 @@ impl Inputs {
         let (numbers, bytes): (&[u32], [&[u8]; 5]) = match call {
             Call::Open(o) => (&o.intervals, o.files()),
             Call::Command { line, .. } => (&[], [line, none, none, none, none]),
+            Call::Turn { old } => (old, [none; 5]),
             _ => (&[], [none; 5]),
         };
         // What lies beyond the end would be well read, if it were read.
-        let numbers = Lent::new(numbers, 4, || random.pick(&[60, 65_535, 1]));
+        let beyond: &[u32] = if let Call::Turn { .. } = call { &[0] } else { &[60, 65_535, 1] };
+        let numbers = Lent::new(numbers, 4, || random.pick(beyond));
         let start = random.below(9) as usize;
         let bytes = bytes.map(|part| Lent::new(part, start, || random.pick(b"\r\r\r0015,?\0\0")));
         Inputs { numbers, bytes }
@@ -229,6 +235,7 @@ fn by_library(state: &mut Lent<u32>, call: &Call, inputs: &mut Inputs, rooms: &m
             Call::Counters { .. } => c::dialchisel_counters(s, n, out, out_count),
             Call::Why { time, kind, .. } => c::dialchisel_why(s, n, time, kind, times, times_count),
             Call::Error { column, cause } => c::dialchisel_error(column, cause),
+            Call::Turn { .. } => c::dialchisel_turn_1(numbers.0, numbers.1, s, n),
         }
     };
     (answer.number, answer.second)
@@ -252,6 +259,7 @@ pub fn by_model(s: &mut [u32], call: &Call, room: &mut [u8], times: &mut [u32]) 
         Call::Counters { .. } => model::counters(s, room),
         Call::Why { time, kind, .. } => model::why(s, *time, *kind, times),
         Call::Error { column, cause } => model::error(*column, *cause),
+        Call::Turn { old } => model::turn(old, s),
     }
 }
 
@@ -278,6 +286,9 @@ pub struct Bench {
     pub actions: BTreeMap<String, u64>,
     pub both_rows: BTreeMap<&'static str, u64>,
     pub errors: BTreeMap<&'static str, u64>,
+    /// What was met of the timed reset, and of buffers that are turned.
+    pub timed: BTreeMap<&'static str, u64>,
+    pub turned: BTreeMap<&'static str, u64>,
 }
 
 impl Bench {
@@ -297,6 +308,7 @@ impl Bench {
         let (numbers, files) = (inputs.numbers.clone(), inputs.bytes.clone());
         let full = full_lists(pair.model.part());
         let other = other_stands(pair.model.part(), call);
+        let waiting = Waiting::of(pair.model.part(), call);
 
         let library = by_library(&mut pair.library, call, &mut inputs, &mut library_rooms, odd);
         let model = by_model(pair.model.part_mut(), call, model_rooms.bytes.part_mut(), model_rooms.times.part_mut());
@@ -308,7 +320,7 @@ impl Bench {
             pair.library.difference("state", &pair.model),
             library_rooms.bytes.difference("room", &model_rooms.bytes),
             library_rooms.times.difference("times", &model_rooms.times),
-            inputs.numbers.difference("intervals", &numbers),
+            inputs.numbers.difference("numbers lent", &numbers),
         ];
         let names = ["first bytes lent", "second bytes lent", "third bytes lent", "fourth bytes lent", "fifth bytes lent"];
         let in_files = (0..5).map(|which| inputs.bytes[which].difference(names[which], &files[which]));
@@ -332,6 +344,7 @@ impl Bench {
         }
         self.count_long(call, model, full, pair.model.part());
         self.count_rejection(call, model, other);
+        self.count_timed(call, model, waiting, pair.model.part());
         if let (Call::Request { .. }, 11 | 13..=18) = (call, model.0) {
             self.count_seconds(call, model);
         }

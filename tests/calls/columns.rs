@@ -155,7 +155,7 @@ impl Bench {
 
     /// A good state in which a service, or every one where there is no such, has that standing, and
     /// the other registration, or both, stands so.
-    fn registered(&mut self, service: u32, nfm: u32, standing: u32, other: (u32, u32, u32)) -> Vec<u32> {
+    pub fn registered(&mut self, service: u32, nfm: u32, standing: u32, other: (u32, u32, u32)) -> Vec<u32> {
         let mut s = self.good_state();
         while s[LAST] > LATEST - 10_000 {
             s = self.good_state();

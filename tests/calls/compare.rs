@@ -3,10 +3,12 @@
 //! It fails at the first difference, and at the end where an answer, a column's action, a row for
 //! both registrations with the other one in each of its states, a permit on a full list, a block by
 //! a limit of 254 or 255 or by one of the module's own file, a limit's first or last second, an
-//! opening with some of the card's files and without the others, or of `why` a number, a rule, two
-//! or three rules at once or an edge of the lists was met fewer than 100 times.
+//! opening with some of the card's files and without the others, of `why` a number, a rule, two or
+//! three rules at once or an edge of the lists, or a case of the timed reset or of turning was met
+//! fewer than 100 times.
 mod both;
 mod columns;
+mod due;
 mod files;
 #[allow(dead_code)]
 #[path = "../link/gate.rs"]
@@ -15,10 +17,12 @@ mod made;
 mod model;
 mod random;
 mod reasons;
+mod turned;
 mod why;
 
 use both::{by_model, file, Bench, Call, Opening, Pair};
 use columns::{ACTIONS, ERRORS, OTHER};
+use due::TIMED;
 use files::{LACKING, RPM_BLOCKS};
 use made::EDGES;
 use model::*;
@@ -26,9 +30,10 @@ use random::Random;
 use std::collections::BTreeMap;
 use std::fmt::Display;
 use std::process::exit;
+use turned::TURNED;
 use why::{Reached, MET};
 
-const ANSWERS: [u32; 23] = [0, 1, 2, 3, 4, 5, 10, 11, 13, 14, 15, 16, 17, 18, 20, 21, 22, 23, 24, 25, 26, 27, 28];
+const ANSWERS: [u32; 24] = [0, 1, 2, 3, 4, 5, 10, 11, 12, 13, 14, 15, 16, 17, 18, 20, 21, 22, 23, 24, 25, 26, 27, 28];
 const WHY_NUMBERS: [u32; 13] = [0, 1, 2, 3, 4, 10, 11, 13, 14, 15, 16, 17, 18];
 const LIMITS: [u32; 7] = [11, 13, 14, 15, 16, 17, 18];
 const SECONDS: [&str; 3] = ["limits, blocks with their seconds", "limits, blocks with 1 second", "limits, blocks with 3600 seconds"];
@@ -422,7 +427,7 @@ impl Bench {
 
     /// States of wrong lengths, their first places good.
     fn lengths(&mut self) {
-        for length in [0, 1, 2, 54, 55, 1075, 1329, 1331, 1400, 2660, 65_536 + 1330] {
+        for length in [0, 1, 2, 54, 55, 1075, 1329, 1330, 1332, 1400, 2662, 65_536 + 1331] {
             for _ in 0..40 {
                 let good = self.good_state();
                 let mut state = good.clone();
@@ -580,6 +585,8 @@ impl Bench {
         println!("compare: rejections, by column and answer: {}", listed(&self.actions));
         println!("compare: rows for both registrations, by the other one: {}", listed(&self.both_rows));
         println!("compare: numbers beside a cause: {}", listed(&self.errors));
+        println!("compare: of the timed reset: {}", listed(&self.timed));
+        println!("compare: of turning: {}", listed(&self.turned));
         let long = self.cuts.iter().all(|&n| n >= LEAST_EACH) && self.high.len() == 7 && self.high.values().all(|&n| n >= LEAST_EACH);
         let mut seldom = too_seldom("answer", &ANSWERS, &self.answers);
         let strange: Vec<&u32> = self.answers.keys().filter(|a| !ANSWERS.contains(a)).collect();
@@ -588,6 +595,8 @@ impl Bench {
         seldom.extend(too_seldom("rejection", &ACTIONS.map(str::to_string), &self.actions));
         seldom.extend(too_seldom("row for both", &OTHER, &self.both_rows));
         seldom.extend(too_seldom("error", &ERRORS, &self.errors));
+        seldom.extend(too_seldom("timed reset", &TIMED, &self.timed));
+        seldom.extend(too_seldom("turning", &TURNED, &self.turned));
         for (what, counts) in SECONDS.into_iter().zip(&self.seconds) {
             println!("compare: {what}: {}", listed(counts));
             seldom.extend(too_seldom(what, &LIMITS, counts));
@@ -662,6 +671,8 @@ fn main() {
         actions: BTreeMap::new(),
         both_rows: BTreeMap::new(),
         errors: BTreeMap::new(),
+        timed: BTreeMap::new(),
+        turned: BTreeMap::new(),
     };
     bench.figures();
     bench.limits();
@@ -684,6 +695,8 @@ fn main() {
     bench.lines();
     bench.arguments();
     bench.columns();
+    bench.due();
+    bench.turned();
     let enough = bench.enough();
     println!("compare: {} calls, no difference", bench.calls);
     exit(i32::from(!enough))

@@ -122,15 +122,18 @@ impl Bench {
             s[LENGTHS + list] = length;
             s[LISTS + LIST_ROOM * list..][..times.len()].copy_from_slice(&times);
         }
+        let near = s[LAST] - 1.min(s[LAST]) + random.number(3);
+        s[DUE] = random.pick(&[0, 0, 1, 3_000, near, near, s[LAST] + 331, LATEST, LATEST + 1, LATEST + 100_980, u32::MAX]);
         s
     }
 
-    /// A time at an edge of what the state holds: an end, a permit's hour, a leak point; one less or one more.
+    /// A time at an edge of what the state holds: an end, the due time, a permit's hour, a leak point;
+    /// one less or one more.
     fn edge_time(&mut self, s: &[u32]) -> u64 {
         let random = &mut self.random;
         let (opened, last) = (u64::from(s[OPENED]), u64::from(s[LAST]));
         let hour = u64::from(HOUR);
-        let edge = match random.below(5) {
+        let edge = match random.below(6) {
             0 => u64::from(s[ENDS + random.below(4) as usize]),
             1 | 2 => {
                 let list = random.below(5) as usize;
@@ -141,6 +144,7 @@ impl Bench {
                 let period = hour * u64::from(random.pick(&s[LEAK_RATES..LEAK_RATES + 3]).max(1));
                 opened + ((last - opened) / period + random.pick(&[1, 1, 1, 2, 3, 254, 255, 256])) * period
             }
+            4 => u64::from(s[DUE]),
             _ => last + hour,
         };
         (edge + random.below(3)).saturating_sub(1)
@@ -186,6 +190,7 @@ impl Bench {
             8 => Call::Silent { time, service },
             9 => Call::Why { time, kind: self.random.number(6), room: 8 },
             10 => Call::Error { column: self.random.number(5), cause: self.random.number(256) },
+            11..=15 if s[DUE] > 0 => Call::Tick { time },
             _ if asked && self.random.chance(grants) => Call::Granted { time, service },
             _ if asked && self.random.chance(35) => Call::Silent { time, service },
             _ if asked => self.rejection(time, service),

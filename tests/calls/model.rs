@@ -1,15 +1,17 @@
-//! A model of the eleven calls, ten of them on the buffer of 1,330 numbers, written from document
+//! A model of the twelve calls, eleven of them on the buffer of 1,331 numbers, written from document
 //! 01 and from the customer's requests, §1 for `why`, §2 for the files of an opening, §3 for the
-//! wait, §4 for the seconds of a limit and §6, with section 7.5 of 000, for causes and `error`, and
-//! from nothing else. It is plain and slow on purpose: each part names the heading that it follows,
-//! to be read beside it. It never panics, whatever it is given.
+//! wait, §4 for the seconds of a limit, §6, with section 7.5 of 000, for causes and `error`, and §7,
+//! with RMM6 to RMM8 and RTC1 of 000, for the timed reset and `turn`, and from nothing else. It is
+//! plain and slow on purpose: each part names the heading that it follows, to be read beside it. It
+//! never panics, whatever it is given.
 #![forbid(unsafe_code)]
 
 /// The two numbers given back.
 pub type Answer = (u32, u32);
 
-// "The buffer": the places.
-pub const PLACES: usize = 1330;
+// "The buffer": the places. §7: version 2 has one more at the end, the due time.
+pub const PLACES: usize = 1331;
+pub const PLACES_1: usize = 1330;
 pub const LETTERS: usize = 0;
 pub const VERSION: usize = 1;
 pub const OPENED: usize = 2;
@@ -21,6 +23,7 @@ pub const RPM: usize = 8;
 pub const INTERVAL_COUNT: usize = 9;
 pub const INTERVALS: usize = 10;
 pub const N1: usize = 20;
+pub const T1: usize = 21;
 pub const F1: usize = 22;
 pub const F2: usize = 23;
 pub const F3: usize = 24;
@@ -38,6 +41,7 @@ pub const C_PDP_1: usize = 46;
 pub const LENGTHS: usize = 50;
 pub const LISTS: usize = 55;
 pub const LIST_ROOM: usize = 255;
+pub const DUE: usize = 1330;
 
 // The five lists, in their order.
 pub const ATTACH: usize = 0;
@@ -61,11 +65,19 @@ pub const LATEST_END: u32 = 4_000_131_069;
 pub const LARGEST_IMSI: u64 = 999_999_999_999_999;
 pub const HOUR: u32 = 3_600;
 
-/// "A buffer that breaks any line here is bad."
+/// §7: "Version 2 of the buffer adds a due time (any number is good)".
 pub fn good(s: &[u32]) -> bool {
-    s.len() == PLACES
-        && s[LETTERS] == MAGIC
-        && s[VERSION] == 1
+    s.len() == PLACES && s[VERSION] == 2 && fits_the_table(s)
+}
+
+/// A buffer of version 1.
+pub fn good_1(s: &[u32]) -> bool {
+    s.len() == PLACES_1 && s[VERSION] == 1 && fits_the_table(s)
+}
+
+/// "A buffer that breaks any line here is bad": all lines but those of its length and its version.
+fn fits_the_table(s: &[u32]) -> bool {
+    s[LETTERS] == MAGIC
         && s[OPENED] <= s[LAST]
         && s[LAST] <= LATEST
         && imsi(s) <= LARGEST_IMSI
@@ -165,10 +177,11 @@ pub fn open(
     if time > LATEST {
         return (3, 0);
     }
-    // "A new buffer is idle and clear, ... failures and ends 0, lists empty; Start Timer is 0": all that is not named below is 0.
+    // "A new buffer is idle and clear, ... failures and ends 0, lists empty; Start Timer is 0", and no
+    // due time is set: all that is not named below is 0.
     s.fill(0);
     s[LETTERS] = MAGIC;
-    s[VERSION] = 1;
+    s[VERSION] = 2;
     s[OPENED] = time;
     s[LAST] = time;
     s[IMSI] = (imsi / 4_294_967_296) as u32;
@@ -255,7 +268,11 @@ pub fn request(s: &mut [u32], time: u32, kind: u32) -> Answer {
     match kind {
         0..=3 => s[STANDINGS + service] = ASKED,
         4 => s[STANDINGS + 2] = IDLE,
-        _ => s[39..=42].fill(IDLE),
+        _ => {
+            s[39..=42].fill(IDLE);
+            // RMM8: "Timer related to T1 shall be stopped when UE is reset".
+            s[DUE] = 0;
+        }
     }
     let lists: &[usize] = match kind {
         0 | 1 => &[ATTACH],
@@ -541,6 +558,7 @@ pub fn rejected(s: &mut [u32], time: u32, service: u32, cause: u32, second: u32,
             _ => TEMPORARY,
         };
     }
+    set_due(s, time, column, cause);
     let backs_off: &[u32] = match row(column, cause).map_or(As3gpp, |row| row.3) {
         GsmBackOff => &[0],
         GprsBackOff => &[1],
@@ -567,6 +585,26 @@ pub fn rejected(s: &mut [u32], time: u32, service: u32, cause: u32, second: u32,
         }
     }
     answer
+}
+
+/// §7, "The timed reset". RMM6: MM 2, 3 and 6 and GMM 2, 3, 6, 7 and 8 are permanent; "disabled if T1
+/// is set to 0"; "not be re-started if an instance of the same timer is already running". It is
+/// RPM's, so it waits for nothing while RPM is 0.
+fn set_due(s: &mut [u32], time: u32, column: u32, cause: u32) {
+    let permanent: &[u32] = match column {
+        0 => &[2, 3, 6],
+        1 => &[2, 3, 6, 7, 8],
+        _ => &[],
+    };
+    if s[RPM] == 0 || s[T1] == 0 || s[DUE] != 0 || !permanent.contains(&cause) {
+        return;
+    }
+    // T1 is "in 6 min increments" and an average; RTC1 has the time "within a time window of [-10%,
+    // +10%]" of it. "An open draw is §3's x at n = 0, modulo the spread": of all its whole seconds.
+    let average = s[T1] * 6 * 60;
+    let (shortest, longest) = (average - average / 10, average + average / 10);
+    let spread = u64::from(longest - shortest + 1);
+    s[DUE] = time + shortest + (drawn(imsi(s), 0) % spread) as u32;
 }
 
 /// "For the AT side the CME and CMS numbers that it gives beside them": the CME number of an MM,
@@ -621,12 +659,36 @@ pub fn dropped(s: &mut [u32], time: u32) -> Answer {
     (0, 0)
 }
 
-/// "The clock call has only a time and does nothing more."
+/// "The clock call has only a time", and by §7 it alone orders a reset: "the first one not before the
+/// due time at which N1, if it applies, is not full, and never while RPM is 0". N1 applies, and is
+/// full, as for request 5.
 pub fn tick(s: &mut [u32], time: u32) -> Answer {
-    match accept(s, true, time, |_| true) {
-        Err(refused) => refused,
-        Ok(()) => (0, 0),
+    if let Err(refused) = accept(s, true, time, |_| true) {
+        return refused;
     }
+    let waits = s[DUE] != 0 && s[RPM] == 1;
+    if !waits || time < s[DUE] || first_limit(s, time, 5).is_some() {
+        return (0, 0);
+    }
+    // "Adds one to C-R-1, at most 255, enters the reset list ..., makes all services idle as request 5
+    // does and ends the due time."
+    s[C_R_1] = (s[C_R_1] + 1).min(255);
+    append(s, RESET, time);
+    s[39..=42].fill(IDLE);
+    s[DUE] = 0;
+    (12, 0)
+}
+
+/// "One separate call reads version 1 and writes version 2, due time 0." What was in `s` does not
+/// matter.
+pub fn turn(old: &[u32], s: &mut [u32]) -> Answer {
+    if !good_1(old) || s.len() != PLACES {
+        return (1, 0);
+    }
+    s[..PLACES_1].copy_from_slice(old);
+    s[VERSION] = 2;
+    s[DUE] = 0;
+    (0, 0)
 }
 
 /// "AT lines": what a line asks for.

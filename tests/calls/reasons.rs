@@ -13,11 +13,12 @@ pub fn applying(kind: u32, mood: u32, rpm: u32) -> u32 {
     house[kind as usize] | if rpm == 1 { radio[kind as usize] } else { 0 }
 }
 
-/// A state opened so, and moved on to `last`.
-fn quiet(opened: u32, last: u32) -> Vec<u32> {
+/// A state opened so, and moved on to `last`. A reset may be due: no request asks for that.
+fn quiet(random: &mut Random, opened: u32, last: u32) -> Vec<u32> {
     let mut s = vec![0; PLACES];
     model::open(&mut s, opened, 1_010_123_456_789, &[60, 120, 240], 1, 1, 0, 0, &[0; 32], &[0; 6], &[0; 32], &[0; 32], &[0; 6]);
     s[LAST] = last;
+    s[DUE] = random.pick(&[0, 1, last, u32::MAX]);
     s
 }
 
@@ -40,7 +41,7 @@ fn made_ready(s: &mut [u32], kind: u32) {
 /// others are: every list has `sent` permits in the hour, from 1 to 255, and mostly some older ones.
 pub fn full(random: &mut Random, kind: u32, mood: u32, rpm: u32, bits: u32, sent: u32) -> Vec<u32> {
     let now = 100_000;
-    let mut s = quiet(0, now);
+    let mut s = quiet(random, 0, now);
     (s[MOOD], s[RPM]) = (mood, rpm);
     for (rule, (_, limit)) in RULES.into_iter().enumerate() {
         let stands = bits >> rule & 1 == 1;
@@ -67,7 +68,7 @@ pub fn pressed(random: &mut Random, kind: u32) -> (Vec<u32>, u32) {
     let opened = random.pick(&[0, 0, 1000, any, any, LATEST - 8_000, LATEST - 10, LATEST]);
     let last = opened + random.pick(&[0, 1, HOUR - 1, HOUR, 9_000, 9_000]).min(LATEST - opened);
     let time = last + random.pick(&[0, 0, 0, 1, 50, HOUR - 1, HOUR]).min(LATEST - last);
-    let mut s = quiet(opened, last);
+    let mut s = quiet(random, opened, last);
     s[NFM] = u32::from(random.chance(90));
     s[RPM] = u32::from(random.chance(85));
     s[MOOD] = random.pick(&[0, 1, 1, 2, 2, 3, 3]);

@@ -59,11 +59,15 @@ pub mod c {
             room_count: usize,
         ) -> Answer;
         pub fn dialchisel_counters(state: *mut u32, state_count: usize, room: *mut u8, room_count: usize) -> Answer;
+        pub fn dialchisel_turn_1(old: *const u32, old_count: usize, state: *mut u32, state_count: usize) -> Answer;
     }
 }
 
 /// How many numbers a state has.
-pub const STATE: usize = 1330;
+pub const STATE: usize = 1331;
+
+/// How many numbers a state of version 1 had.
+pub const STATE_1: usize = 1330;
 
 /// How many rules can stand against a request.
 pub const RULES: usize = 8;
@@ -126,6 +130,8 @@ pub enum Verdict {
     Blocked(Block),
     /// The outcome is taken; what to do next.
     Advice(Advice),
+    /// From `tick` alone: reset the module now. The reset counts already, so do not request it.
+    ResetOrdered,
     /// A number that this wrapper does not know. Treat it as "no".
     Unknown { number: u32, second: u32 },
 }
@@ -253,6 +259,7 @@ impl From<c::Answer> for Verdict {
             5 => Verdict::Refused(Refusal::Line),
             10 => Verdict::Blocked(Block::BackOff(second)),
             11 => Verdict::Blocked(Block::N1(second)),
+            12 => Verdict::ResetOrdered,
             13 => Verdict::Blocked(Block::F1(second)),
             14 => Verdict::Blocked(Block::F2(second)),
             15 => Verdict::Blocked(Block::F3(second)),
@@ -387,6 +394,7 @@ impl Gate {
         unsafe { c::dialchisel_dropped(self.state.as_mut_ptr(), STATE, time) }.into()
     }
 
+    /// Tells the time. A timed reset is ordered here alone: call it each minute or more often.
     pub fn tick(&mut self, time: u32) -> Verdict {
         unsafe { c::dialchisel_tick(self.state.as_mut_ptr(), STATE, time) }.into()
     }
@@ -400,5 +408,14 @@ impl Gate {
     /// Writes the counter file for the card.
     pub fn counters(&mut self, file: &mut [u8; 32]) -> Verdict {
         unsafe { c::dialchisel_counters(self.state.as_mut_ptr(), STATE, file.as_mut_ptr(), file.len()) }.into()
+    }
+
+    /// A gate on a state of version 1 that was saved, with no reset due; or why it was refused.
+    pub fn turned(old: &[u32; STATE_1]) -> Result<Gate, Verdict> {
+        let mut gate = Gate { state: [0; STATE] };
+        match unsafe { c::dialchisel_turn_1(old.as_ptr(), STATE_1, gate.state.as_mut_ptr(), STATE) }.into() {
+            Verdict::Done(_) => Ok(gate),
+            other => Err(other),
+        }
     }
 }
