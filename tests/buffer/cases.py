@@ -1,6 +1,8 @@
 #!/usr/bin/env python3
-"""cases.py FOLDER COUNT SEED: the outside test of the table, as FOLDER/stdin and FOLDER/stdout for the program `damage`. First every place below the
-lists with every number at an edge, and the edges of the lists, on each of the three buffers of model.py; then COUNT random cases."""
+"""cases.py FOLDER COUNT SEED: the outside test of the table, as FOLDER/stdin and FOLDER/stdout for
+the program `damage`. First every place below the lists and the due time with every number at an
+edge, the edges of the lists, and versions in other lengths, on each of the three buffers of
+model.py; then COUNT random cases."""
 import itertools
 import random
 import struct
@@ -17,9 +19,12 @@ def fixed():
     for which in range(3):
         for length in (0, 1, 55, SIZE - 1, SIZE, SIZE + 1, LONGEST):
             yield which, length, {}
-        for place in range(55):
+        for place in (*range(55), SIZE - 1):
             for x in EDGES:
                 yield which, SIZE, {place: x}
+        for version in (0, 1, 2, 3):
+            for length in (SIZE - 1, SIZE + 1):
+                yield which, length, {1: version}
         for k in range(5):
             n, first = bases()[which][50 + k], 55 + ROOM * k
             for x in (n - 1, n + 1):

@@ -1,12 +1,13 @@
-"""Which buffers are good, written from document 01's table alone."""
+"""Which buffers are good, written from document 01's table and from request 7 alone: version 2 has
+one place more, the due time, where any number is good."""
 
-SIZE, ROOM, HIGHEST = 1330, 255, 4_000_000_000
+SIZE, ROOM, HIGHEST = 1331, 255, 4_000_000_000
 
 
 def is_good(b):
     if len(b) != SIZE:
         return False
-    if b[0] != 0x00575250 or b[1] != 1:
+    if b[0] != 0x00575250 or b[1] != 2:
         return False
     opened, last = b[2], b[3]
     if not opened <= last <= HIGHEST:
@@ -48,7 +49,7 @@ def is_good(b):
 def bases():
     """Three good buffers: new and empty; in use; full, with every number at its highest."""
     new = [0] * SIZE
-    new[0:10] = [0x00575250, 1, 1000, 1000, 235, 801733525, 1, 0, 1, 3]
+    new[0:10] = [0x00575250, 2, 1000, 1000, 235, 801733525, 1, 0, 1, 3]
     new[10:13] = [60, 120, 240]
     used = list(new)
     used[3], used[7] = 9000, 1
@@ -58,8 +59,10 @@ def bases():
     for k, times in enumerate(([1000, 1000, 8999], [9000], [], [1000 + 30 * i for i in range(254)], [5000, 5000])):
         used[50 + k] = len(times)
         used[55 + ROOM * k:55 + ROOM * k + len(times)] = times
-    full = [0x00575250, 1, 0, HIGHEST, 232830, 2764472319, 1, 1, 1, 10] + [65_535] * 10 + [255] * 15
+    used[1330] = 9331
+    full = [0x00575250, 2, 0, HIGHEST, 232830, 2764472319, 1, 1, 1, 10] + [65_535] * 10 + [255] * 15
     full += [4_000_131_069, 4_000_131_069, 0, 4_000_131_069, 1, 1, 2, 1, 3] + [255] * 6 + [255] * 5
     for k in range(5):
         full += [HIGHEST - 254 * k + k * i for i in range(ROOM)]
+    full += [2**32 - 1]
     return [new, used, full]
