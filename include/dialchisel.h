@@ -1,7 +1,8 @@
 /* dialchisel.h: a proved gate in front of a cellular module. Before each request it answers whether the request may go to the network.
  *
- * For one module and one subscription it keeps the Network Friendly Mode (NFM) back-offs, the Radio Policy Manager (RPM) hourly limits
- * and the card's counters of GSMA CLP.03 v2.0, all in a state that you lend:
+ * For one module and one subscription it keeps the Network Friendly Mode (NFM) back-offs, the Radio
+ * Policy Manager (RPM) hourly limits and timed reset, and the card's counters of GSMA CLP.03 v2.0,
+ * all in a state that you lend:
  *
  *     static uint32_t state[DIALCHISEL_STATE];
  *     static const uint32_t intervals[] = {60, 120, 240};
@@ -24,6 +25,10 @@
  *     } else if (a.number >= DIALCHISEL_BLOCKED_BACKOFF && a.number <= DIALCHISEL_BLOCKED_S1) {
  *         ask_again_in(a.second);
  *     }
+ *     ... and regularly, each minute say:
+ *     a = dialchisel_tick(state, DIALCHISEL_STATE, now());
+ *     if (a.number == DIALCHISEL_RESET_ORDERED)
+ *         reset_the_module();
  *
  * What you owe, in every call:
  * - Each pointer is aligned for its type and valid for the number of elements that follows it. Where that number is 0, any pointer will do,
@@ -37,8 +42,10 @@
  * - The library keeps no state of its own, allocates nothing, waits for nothing, and calls nothing but memmove and memset. Different
  *   states may be used at the same time.
  * - The state holds no pointers: it may be copied, saved and brought back. Each call that is given
- *   it, but opening, first checks all of it against the table at the end of this file, and refuses
- *   with 1 what does not fit. dialchisel_error alone is given none.
+ *   it, but the two that make one, first checks all of it against the table at the end of this
+ *   file, and refuses with 1 what does not fit. dialchisel_error alone is given none.
+ * - This is version 2 of the state. One that was saved in version 1 is refused with 1 too, until
+ *   dialchisel_turn_1 has made one of version 2 from it.
  */
 #ifndef DIALCHISEL_H
 #define DIALCHISEL_H
@@ -51,7 +58,8 @@ extern "C" {
 #endif
 
 /* Sizes: the state and the room of dialchisel_why in numbers, the rest in bytes. A file that the card lacks has none. */
-#define DIALCHISEL_STATE 1330         /* exactly */
+#define DIALCHISEL_STATE 1331         /* exactly */
+#define DIALCHISEL_STATE_1 1330       /* exactly: a state of version 1, for dialchisel_turn_1 */
 #define DIALCHISEL_RULES 8            /* exactly: a time for each bit of enum dialchisel_rule_bit */
 #define DIALCHISEL_PARAMETER_FILE 32  /* exactly: N1, T1, F1, F2, F3, F4, then zeros */
 #define DIALCHISEL_LEAK_FILE 6        /* exactly: LR-1, LR-2, LR-3, then zeros */
@@ -96,8 +104,10 @@ enum dialchisel_column {
 enum dialchisel_number {
     DIALCHISEL_DONE = 0,              /* done or permitted */
     /* Refused: nothing changed. */
-    DIALCHISEL_REFUSED_BUFFER = 1,    /* state not 1,330 numbers or damaged (opening asks the length only), AT room under 16, counter room
-                                       * not 32, room of why not 8 */
+    DIALCHISEL_REFUSED_BUFFER = 1,    /* state not 1,331 numbers, not of version 2 or damaged (the
+                                       * calls that make one ask the length only), AT room under 16,
+                                       * counter room not 32, room of why not 8; in turn_1 also an
+                                       * old state not 1,330 numbers, not of version 1 or damaged */
     DIALCHISEL_REFUSED_RANGE = 2,     /* service, kind, cause, flag, column or setting out of range;
                                        * a column of another service; at opening, a bad file */
     DIALCHISEL_REFUSED_TIME = 3,      /* time below the last one or above 4,000,000,000; opening needs no earlier time */
@@ -107,13 +117,16 @@ enum dialchisel_number {
      * to 3,600 seconds. To wait so long is enough for that limit, unless something is permitted in between, and a second less is not.
      * Another rule may still block, so ask again then. */
     DIALCHISEL_BLOCKED_BACKOFF = 10,  /* a back-off runs; second: seconds left. No counter */
-    DIALCHISEL_BLOCKED_N1 = 11,       /* resets in the hour. C-BR-1 */
+    DIALCHISEL_BLOCKED_N1 = 11,       /* resets in the hour, ordered ones too. C-BR-1 */
     DIALCHISEL_BLOCKED_F1 = 13,       /* activations in the hour, after one was ignored. C-PDP-1 */
     DIALCHISEL_BLOCKED_F2 = 14,       /* the same, after a permanent rejection. C-PDP-2 */
     DIALCHISEL_BLOCKED_F3 = 15,       /* the same, after a temporary rejection. C-PDP-3 */
     DIALCHISEL_BLOCKED_F4 = 16,       /* activations and deactivations in the hour. C-PDP-4 */
     DIALCHISEL_BLOCKED_A1 = 17,       /* attaches in the hour: a limit of this house. No counter */
     DIALCHISEL_BLOCKED_S1 = 18,       /* SMS in the hour: a limit of this house. No counter */
+    /* Ordered, in answer to dialchisel_tick alone: no request is answered so. Reset the module now,
+     * and do not ask for a DIALCHISEL_MODULE_RESET: this one is on the reset list and in C-R-1. */
+    DIALCHISEL_RESET_ORDERED = 12,
     /* Advice, from rejected and silent. The outcome is taken. All but 20 leave failures and
      * back-offs as they are and hold no later request: whether the PLMN, the area or the cell is
      * still the same, and whether somebody outside prompts, the gate cannot know. */
@@ -146,16 +159,17 @@ struct dialchisel_answer {
     uint32_t second; /* 0 where nothing else is said */
 };
 
-/* Opens the state for a module and its subscription; what was in it does not matter. A new state is idle, with no failures, back-offs
- * or permits, and its counters come from the card.
+/* Opens the state for a module and its subscription; what was in it does not matter. A new state is
+ * idle, with no failures, back-offs, permits or due time, and its counters come from the card.
  *   time      now, in whole seconds of a clock that never goes back
  *   imsi      as a number, at most 999,999,999,999,999; it spreads the waits
  *   intervals 1 to 10 base intervals of the back-offs, in seconds
- *   nfm, rpm  0 or 1: are back-offs timed; do N1 and F1 to F4 apply. The latter is the card's flag, or the module's own where the card
- *             has none
+ *   nfm, rpm  0 or 1: are back-offs timed; do N1, T1 and F1 to F4 apply. The latter is the card's
+ *             flag, or the module's own where the card has none
  *   a1, s1    attaches and SMS permitted in an hour, at most 255; 0 is no limit
- *   params, leaks, counters  the three card files as they were read; a limit of 0 is no limit, a leak rate of 0 no leak. A file that
- *             the card lacks has the count 0
+ *   params, leaks, counters  the three card files as they were read; a limit of 0 is no limit, a T1
+ *             of 0 no timed reset, a leak rate of 0 no leak. A file that the card lacks has the
+ *             count 0
  *   own_params, own_leaks    the module's own two files, always of their full size: each rules where the card lacks that one. Counters
  *             that the card lacks begin at 0. Each file is taken by itself
  * Answers 0, or refuses with 1, 2 or 3: with 2 also for a card file whose count is neither 0 nor the file's size, for a byte other than 0
@@ -169,8 +183,10 @@ struct dialchisel_answer dialchisel_open(uint32_t *state, size_t state_count, ui
                                          const uint8_t *own_params, size_t own_params_count,
                                          const uint8_t *own_leaks, size_t own_leaks_count);
 
-/* May a request of this kind go to the network now? Kinds 0 to 3 need their service idle and make it asked; 4 needs PDP up and makes it
- * idle; 5 fits always and makes all idle, but ends no back-off. Answers 0 (send it: it counts as sent), 10 to 18 (do not: ask again in
+/* May a request of this kind go to the network now? Kinds 0 to 3 need their service idle and make
+ * it asked; 4 needs PDP up and makes it idle; 5 fits always and makes all idle, but ends no
+ * back-off. A permitted 5 also ends a due time that is set: the module has its reset, which C-R-1
+ * does not count. Answers 0 (send it: it counts as sent), 10, 11 or 13 to 18 (do not: ask again in
  * `second` seconds), or refuses with 1 to 4. */
 struct dialchisel_answer dialchisel_request(uint32_t *state, size_t state_count, uint32_t time, uint32_t kind);
 
@@ -181,8 +197,9 @@ struct dialchisel_answer dialchisel_request(uint32_t *state, size_t state_count,
  *           after it: with a limit of L, the time L places from the newest on the limit's list, the newest counted as one. Where that
  *           limit is the first, dialchisel_request gives times[i] + 3600 - time as its seconds. For the back-off and for a rule that
  *           does not stand it is 0; a permit of time 0 is 0 too, and its bit tells that it stands
- * Answers 0 or 10 to 18, or refuses with 1 to 4 as dialchisel_request would, and with 1 where the room is not of 8 numbers; second is 0
- * then. `times` is written, whole, only where the number is 0 or 10 and up. */
+ * Answers 0, 10, 11 or 13 to 18, or refuses with 1 to 4 as dialchisel_request would, and with 1
+ * where the room is not of 8 numbers; second is 0 then. `times` is written, whole, only where the
+ * number is 0 or 10 and up. */
 struct dialchisel_answer dialchisel_why(const uint32_t *state, size_t state_count, uint32_t time, uint32_t kind,
                                         uint32_t *times, size_t times_count);
 
@@ -205,8 +222,19 @@ struct dialchisel_answer dialchisel_granted(uint32_t *state, size_t state_count,
  *
  * SM 34 is 20 where no second network exists. MM 8 and 9 and GMM 2, 3, 6, 8 and 9 back off both
  * registrations, each by its own failures: 20 has the wait of the rejected one, and the other,
- * asked or idle, stays so. Each failure in a row takes the next interval, or the last. Answers 20
- * to 28, or refuses with 1 to 4. */
+ * asked or idle, stays so. Each failure in a row takes the next interval, or the last.
+ *
+ * MM 2, 3 and 6 and GMM 2, 3, 6, 7 and 8 also set a due time for a reset, whatever NFM is, where
+ * RPM is 1, T1 is not 0 and none is set:
+ *
+ *     time + 324 * T1 + x % (72 * T1 + 1)
+ *
+ * This is T1 times 6 minutes, a tenth less to a tenth more; x is imsi * 16 in 64 bits after
+ * x ^= x << 13, x ^= x >> 7 and x ^= x << 17. No answer tells it; DIALCHISEL_PLACE_DUE does. It
+ * stays through everything, a grant too, until dialchisel_tick orders the reset, a
+ * DIALCHISEL_MODULE_RESET is permitted, or the state is opened anew.
+ *
+ * Answers 20 to 28, or refuses with 1 to 4. */
 struct dialchisel_answer dialchisel_rejected(uint32_t *state, size_t state_count, uint32_t time, uint32_t service,
                                              uint32_t cause, uint32_t second, uint32_t column);
 
@@ -223,8 +251,13 @@ struct dialchisel_answer dialchisel_silent(uint32_t *state, size_t state_count, 
 /* PDP, which was up, was dropped. Makes it idle. Answers 0, or refuses with 1, 3 or 4. */
 struct dialchisel_answer dialchisel_dropped(uint32_t *state, size_t state_count, uint32_t time);
 
-/* Time has passed: the clock moves and counters leak, as they do in every other call that is given a time. Answers 0, or refuses with
- * 1 or 3. */
+/* Time has passed: the clock moves and counters leak, as they do in every other call that is given
+ * a time. If a due time is set (see dialchisel_rejected) and not after this time, RPM is 1, and N1
+ * is 0 or above the resets in the hour, then a reset is ordered: C-R-1 rises by one, to 255 at
+ * most, after its leak, the time goes on the reset list, all services become idle, and the due time
+ * ends; failures and back-offs stay. While N1 holds it back the due time stays, and the next of
+ * these calls asks anew. No other call orders a reset: without this one there is never any. Make it
+ * regularly, each minute or more often. Answers 0 or 12, or refuses with 1 or 3. */
 struct dialchisel_answer dialchisel_tick(uint32_t *state, size_t state_count, uint32_t time);
 
 /* Obeys an AT line, which ends in its CR, and writes what goes back to the terminal. The clock does not move. The forms:
@@ -240,11 +273,18 @@ struct dialchisel_answer dialchisel_command(uint32_t *state, size_t state_count,
  * Answers 0 and 32, or refuses with 1. */
 struct dialchisel_answer dialchisel_counters(uint32_t *state, size_t state_count, uint8_t *room, size_t room_count);
 
+/* Makes a state of version 2 from a saved one of version 1: it holds all that the old one does, and
+ * no due time is set. The old one has to be a good state of version 1, of exactly 1,330 numbers,
+ * and is not written; the new one has exactly 1,331, and what was in it does not matter. No time is
+ * given: the last time stays. Answers 0, or refuses with 1. */
+struct dialchisel_answer dialchisel_turn_1(const uint32_t *old, size_t old_count,
+                                           uint32_t *state, size_t state_count);
+
 /* Where things stand in the state, for reading. Do not write there: a place changed by hand is either refused with 1 from then on or,
  * worse, believed. */
 enum dialchisel_place {
     DIALCHISEL_PLACE_LETTERS = 0,        /* 0x00575250 */
-    DIALCHISEL_PLACE_VERSION = 1,        /* 1 */
+    DIALCHISEL_PLACE_VERSION = 1,        /* 2 */
     DIALCHISEL_PLACE_OPENED = 2,         /* opening time */
     DIALCHISEL_PLACE_LAST = 3,           /* last time */
     DIALCHISEL_PLACE_IMSI = 4,           /* 2 places: quotient and remainder by 2^32 */
@@ -254,7 +294,7 @@ enum dialchisel_place {
     DIALCHISEL_PLACE_INTERVAL_COUNT = 9, /* 1 to 10 */
     DIALCHISEL_PLACE_INTERVALS = 10,     /* 10 places; unused ones 0 */
     DIALCHISEL_PLACE_N1 = 20,
-    DIALCHISEL_PLACE_T1 = 21,            /* kept, without effect */
+    DIALCHISEL_PLACE_T1 = 21,            /* in units of 6 minutes; 0 is no timed reset */
     DIALCHISEL_PLACE_F1 = 22,
     DIALCHISEL_PLACE_F2 = 23,
     DIALCHISEL_PLACE_F3 = 24,
@@ -267,10 +307,11 @@ enum dialchisel_place {
     DIALCHISEL_PLACE_STANDINGS = 39,     /* 4 places, one for each service: 0 idle, 1 asked, 2 up (PDP alone) */
     DIALCHISEL_PLACE_MOOD = 43,          /* how PDP last failed: 0 clear, 1 ignored, 2 permanent, 3 temporary */
     DIALCHISEL_PLACE_C_BR_1 = 44,
-    DIALCHISEL_PLACE_C_R_1 = 45,
+    DIALCHISEL_PLACE_C_R_1 = 45,         /* resets that were ordered */
     DIALCHISEL_PLACE_C_PDP_1 = 46,       /* 4 places: C-PDP-1 to C-PDP-4 */
     DIALCHISEL_PLACE_LENGTHS = 50,       /* 5 places: how many times each list holds, 0 to 255 */
-    DIALCHISEL_PLACE_LISTS = 55          /* 5 lists of 255 places, in the order of enum dialchisel_list */
+    DIALCHISEL_PLACE_LISTS = 55,         /* 5 lists of 255 places: enum dialchisel_list */
+    DIALCHISEL_PLACE_DUE = 1330          /* due time of a reset; 0 is none. Any number is good */
 };
 
 /* The five lists of permit times: the newest 255, oldest first; unused places are 0. List k begins at DIALCHISEL_PLACE_LISTS + 255 * k. */
@@ -279,7 +320,7 @@ enum dialchisel_list {
     DIALCHISEL_LIST_ACTIVATION = 1, /* kind 2 */
     DIALCHISEL_LIST_PDP = 2,        /* kinds 2 and 4 */
     DIALCHISEL_LIST_SMS = 3,        /* kind 3 */
-    DIALCHISEL_LIST_RESET = 4       /* kind 5 */
+    DIALCHISEL_LIST_RESET = 4       /* kind 5, and resets that were ordered */
 };
 
 #ifdef __cplusplus
