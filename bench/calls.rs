@@ -26,8 +26,8 @@ fn round(expected: (u32, u32), mut call: impl FnMut(u32) -> Answer) -> f64 {
 }
 
 fn main() {
-    let mut state = vec![0u32; 1330];
-    state[..13].copy_from_slice(&[0x0057_5250, 1, 1000, 9000, 235, 801_733_525, 1, 0, 1, 3, 60, 120, 240]);
+    let mut state = vec![0u32; 1331];
+    state[..13].copy_from_slice(&[0x0057_5250, 2, 1000, 9000, 235, 801_733_525, 1, 0, 1, 3, 60, 120, 240]);
     state[27..31].copy_from_slice(&[255, 1, 1, 1]);
     for k in 0..5 {
         state[50 + k] = 255;

@@ -21,12 +21,12 @@ fn rising(p: &[u32], lo: u32, hi: u32) -> bool {
 
 #[inline(never)]
 fn is_good(b: &[u32]) -> bool {
-    if b.len() != 1330 || b[9] < 1 || b[9] > 10 || !capped(&b[50..55], 255) {
+    if b.len() != 1331 || b[9] < 1 || b[9] > 10 || !capped(&b[50..55], 255) {
         return false;
     }
     let n = 10 + b[9] as usize;
     let head = (b[0] == 0x0057_5250)
-        & (b[1] == 1)
+        & (b[1] == 2)
         & (b[2] <= b[3])
         & (b[3] <= 4_000_000_000)
         & ((u64::from(b[4]) << 32 | u64::from(b[5])) <= 999_999_999_999_999)
@@ -60,8 +60,8 @@ fn round(mut check: impl FnMut() -> bool) -> f64 {
 fn main() {
     println!("lists hold  Dialchisel       Rust  ratio");
     for used in [0usize, 1, 64, 128, 200, 254, 255] {
-        let mut b = vec![0u32; 1330];
-        b[..13].copy_from_slice(&[0x0057_5250, 1, 1000, 9000, 235, 801_733_525, 1, 0, 1, 3, 60, 120, 240]);
+        let mut b = vec![0u32; 1331];
+        b[..13].copy_from_slice(&[0x0057_5250, 2, 1000, 9000, 235, 801_733_525, 1, 0, 1, 3, 60, 120, 240]);
         for k in 0..5 {
             b[50 + k] = used as u32;
             for i in 0..used {

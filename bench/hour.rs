@@ -52,20 +52,23 @@ fn main() {
         turns(name, expected, || check(then_full_for, times, most), || check(timing_full_for, times, most));
     }
 
-    let mut state = vec![0u32; 1330];
-    state[..13].copy_from_slice(&[0x0057_5250, 1, 1000, NOW, 235, 801_733_525, 1, 0, 1, 3, 60, 120, 240]);
+    let mut state = vec![0u32; 1331];
+    state[..13].copy_from_slice(&[0x0057_5250, 2, 1000, NOW, 235, 801_733_525, 1, 0, 1, 3, 60, 120, 240]);
     state[27..31].copy_from_slice(&[255, 1, 1, 1]);
     for k in 0..5 {
         state[50 + k] = 255;
         state[55 + 255 * k..310 + 255 * k].copy_from_slice(&recent);
     }
-    let (s, n) = (state.as_mut_ptr(), state.len());
-    let ask = |f: Request| unsafe {
-        let answer = f(s, n, black_box(NOW), 3);
+    // the earlier one takes version 1
+    let mut older = state[..1330].to_vec();
+    older[1] = 1;
+    let ask = |f: Request, s: &mut [u32]| unsafe {
+        let answer = f(s.as_mut_ptr(), s.len(), black_box(NOW), 3);
         assert!(answer.number == 18);
         answer.second
     };
     let seconds = 8_000 + 3_600 - NOW;
-    turns("request that S1 = 255 blocks, inner", seconds, || ask(then_request_in), || ask(timing_request_in));
-    turns("the same, checked", seconds, || ask(then_request), || ask(timing_request));
+    let (then, now) = (&mut older[..], &mut state[..]);
+    turns("request that S1 = 255 blocks, inner", seconds, || ask(then_request_in, then), || ask(timing_request_in, now));
+    turns("the same, checked", seconds, || ask(then_request, then), || ask(timing_request, now));
 }

@@ -2,7 +2,7 @@
 //! every cause of 0 to 255 that they do not list. It ends in failure at the first difference.
 use std::{collections::BTreeMap, env, fs, process::ExitCode};
 
-const STATE: usize = 1330;
+const STATE: usize = 1331;
 
 #[repr(C)]
 #[derive(Clone, Copy, PartialEq, Debug)]

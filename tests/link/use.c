@@ -1,6 +1,7 @@
 /* A C program on the archive: document 01's printed example, refusals, AT lines, why the gate says
- * no and when to come back, the counter file, a card that lacks its files, the columns of causes.
- * It ends in failure on any surprise. It is C99, and C++17 too. */
+ * no and when to come back, the counter file, a card that lacks its files, the columns of causes, a
+ * timed reset, a state of version 1. It ends in failure on any surprise. It is C99, and C++17
+ * too. */
 #include "dialchisel.h"
 
 #include <stdio.h>
@@ -233,6 +234,70 @@ static void columns(void)
          DIALCHISEL_REFUSED_RANGE, 0);
 }
 
+/* A registration is rejected for good, and no application resets the module: the gate orders it once
+ * T1, 6 minutes within a tenth, is over. With N1 = 1 the next reset has to wait for an hour. */
+static void timed(void)
+{
+    const uint8_t params[DIALCHISEL_PARAMETER_FILE] = {1, 1};
+    uint32_t times[DIALCHISEL_RULES];
+    uint32_t due;
+    same("opened", opened_for(params, sizeof params, NULL, 0, DIALCHISEL_PARAMETER_FILE),
+         DIALCHISEL_DONE, 0);
+    rejected("MM 2", 5001, DIALCHISEL_GSM, DIALCHISEL_COLUMN_MM, 2, DIALCHISEL_BACKED_OFF, 103);
+    due = state[DIALCHISEL_PLACE_DUE];
+    is("due", due == 5001 + 331);
+    rejected("GMM 7", 5003, DIALCHISEL_GPRS, DIALCHISEL_COLUMN_GMM, 7, DIALCHISEL_BACKED_OFF, 103);
+    is("still due then", state[DIALCHISEL_PLACE_DUE] == due);
+    same("SMS", dialchisel_request(state, count, due - 1, DIALCHISEL_SMS_SENDING),
+         DIALCHISEL_DONE, 0);
+    same("a second early", dialchisel_tick(state, count, due - 1), DIALCHISEL_DONE, 0);
+    same("a request orders nothing",
+         dialchisel_request(state, count, due, DIALCHISEL_PDP_ACTIVATION), DIALCHISEL_DONE, 0);
+    same("ordered", dialchisel_tick(state, count, due), DIALCHISEL_RESET_ORDERED, 0);
+    is("all idle", memcmp(state + DIALCHISEL_PLACE_STANDINGS, zeros, 4 * sizeof *state) == 0);
+    is("counted", state[DIALCHISEL_PLACE_C_R_1] == 1);
+    is("not due any more", state[DIALCHISEL_PLACE_DUE] == 0);
+    same("again", dialchisel_tick(state, count, due), DIALCHISEL_DONE, 0);
+    same("outcome of before", dialchisel_granted(state, count, due, DIALCHISEL_SMS),
+         DIALCHISEL_REFUSED_STANDING, 0);
+    same("registered anew",
+         dialchisel_request(state, count, due + 1, DIALCHISEL_GSM_REGISTRATION), DIALCHISEL_DONE, 0);
+    same("why no reset now",
+         dialchisel_why(state, count, due + 1, DIALCHISEL_MODULE_RESET, times, DIALCHISEL_RULES),
+         DIALCHISEL_BLOCKED_N1, DIALCHISEL_BIT_N1);
+    is("the ordered one has to leave the hour", times[1] == due);
+    same("no reset now", dialchisel_request(state, count, due + 1, DIALCHISEL_MODULE_RESET),
+         DIALCHISEL_BLOCKED_N1, 3599);
+
+    rejected("GMM 6", due + 3500, DIALCHISEL_GPRS, DIALCHISEL_COLUMN_GMM, 6,
+             DIALCHISEL_BACKED_OFF, 152);
+    is("due anew", state[DIALCHISEL_PLACE_DUE] == due + 3500 + 331);
+    same("the application resets",
+         dialchisel_request(state, count, due + 3600, DIALCHISEL_MODULE_RESET), DIALCHISEL_DONE, 0);
+    same("nothing is due", dialchisel_tick(state, count, due + 9000), DIALCHISEL_DONE, 0);
+    is("not counted", state[DIALCHISEL_PLACE_C_R_1] == 1);
+    printf("use.c: rejected at 5001 with MM 2, reset ordered at %lu\n", (unsigned long)due);
+}
+
+/* A state as version 1 had it: refused, and turned. */
+static void turned(void)
+{
+    uint32_t old[DIALCHISEL_STATE_1], before[DIALCHISEL_STATE];
+    memcpy(before, state, sizeof before);
+    memcpy(old, state, sizeof old);
+    old[DIALCHISEL_PLACE_VERSION] = 1;
+    same("version 1", dialchisel_tick(old, DIALCHISEL_STATE_1, 20000), DIALCHISEL_REFUSED_BUFFER, 0);
+    same("version 2", dialchisel_turn_1(before, count, state, count), DIALCHISEL_REFUSED_BUFFER, 0);
+    same("too little room", dialchisel_turn_1(old, DIALCHISEL_STATE_1, state, count - 1),
+         DIALCHISEL_REFUSED_BUFFER, 0);
+    is("refusals change nothing", memcmp(before, state, sizeof before) == 0);
+
+    memset(state, 7, sizeof state);
+    same("turned", dialchisel_turn_1(old, DIALCHISEL_STATE_1, state, count), DIALCHISEL_DONE, 0);
+    is("as before", memcmp(before, state, sizeof before) == 0);
+    same("and goes on", dialchisel_tick(state, count, 20000), DIALCHISEL_DONE, 0);
+}
+
 int main(void)
 {
     example();
@@ -240,6 +305,8 @@ int main(void)
     bytes();
     lacking();
     columns();
+    timed();
+    turned();
     printf("use.c: %d answers and places as document 01 has them, %d surprises\n", looked - surprises, surprises);
     return surprises != 0;
 }

@@ -1,9 +1,10 @@
 //! A Rust program on the safe wrapper: document 01's printed example, refusals, the columns of
 //! causes, why the gate says no and when to come back, an AT line, the counter file, a state that
-//! is saved and brought back, a card that lacks its files. It ends in failure on any surprise.
+//! is saved and brought back, a card that lacks its files, a timed reset, a state of version 1. It
+//! ends in failure on any surprise.
 mod gate;
 
-use gate::{Advice, Block, Column, Gate, Refusal, Request, Rule, Service, Settings, Verdict, RTC10};
+use gate::{Advice, Block, Column, Gate, Refusal, Request, Rule, Service, Settings, Verdict, RTC10, STATE, STATE_1};
 use std::process::ExitCode;
 
 /// Notes each surprise and how many things were looked at.
@@ -47,7 +48,7 @@ fn refusals(seen: &mut Seen, gate: &mut Gate, settings: &Settings) {
     seen.same("refusals change nothing", *gate.state() == before, true);
 
     let mut damaged = before;
-    damaged[1] = 2;
+    damaged[1] = 3;
     seen.same("damaged", Gate::restored(damaged).dropped(1115), Verdict::Refused(Refusal::Buffer));
     seen.same("saved", Gate::restored(before).dropped(1115), Verdict::Done(0));
 }
@@ -176,6 +177,49 @@ fn lacking(seen: &mut Seen, settings: &Settings) {
     seen.same("parameters too short", taken(&Settings { parameters: Some(&[0; 31]), ..bare }), refused);
 }
 
+/// A registration rejected for good, twice: the first time the gate orders the reset, the second time
+/// the application is before it. N1 = 6, T1 = 1.
+fn timed(seen: &mut Seen, settings: &Settings) {
+    let mut parameters = [0; 32];
+    parameters[..2].copy_from_slice(&[6, 1]);
+    let Ok(mut gate) = Gate::open(&Settings { parameters: Some(&parameters), ..*settings }) else {
+        return seen.same("opened for a timed reset", false, true);
+    };
+    let done = Verdict::Done(0);
+    seen.same("asked", gate.request(1000, Request::GprsRegistration), done);
+    let told = gate.rejected(1001, Service::Gprs, 6, false, Column::Gmm);
+    seen.same("GMM 6", told, Verdict::Advice(Advice::BackedOff(103)));
+    seen.same("GSM is held too", gate.request(1002, Request::GsmRegistration), Verdict::Blocked(Block::BackOff(102)));
+    let due = gate.state()[1330];
+    seen.same("due", due, 1332);
+    seen.same("a second early", gate.tick(due - 1), done);
+    seen.same("ordered", gate.tick(due), Verdict::ResetOrdered);
+    seen.same("once", gate.tick(due), done);
+    seen.same("asked again", gate.request(1333, Request::GprsRegistration), done);
+    let told = gate.rejected(1334, Service::Gprs, 6, false, Column::Gmm);
+    seen.same("GMM 6 again", told, Verdict::Advice(Advice::BackedOff(152)));
+    seen.same("due anew", gate.state()[1330], 1665);
+    seen.same("the application resets", gate.request(1665, Request::ModuleReset), done);
+    seen.same("nothing is due", gate.tick(5000), done);
+    let mut file = [0; 32];
+    seen.same("counters", gate.counters(&mut file), Verdict::Done(32));
+    seen.same("one was ordered", file[1], 1);
+    println!("use.rs: rejected at 1001 with GMM 6, reset ordered at {due}");
+}
+
+/// A state as version 1 had it is turned, and goes on where it was.
+fn turned(seen: &mut Seen, gate: &Gate) {
+    let mut old = [0; STATE_1];
+    old.copy_from_slice(&gate.state()[..STATE_1]);
+    seen.same("version 2", Gate::turned(&old).map(|_| ()), Err(Verdict::Refused(Refusal::Buffer)));
+    old[1] = 1;
+    let turned = Gate::turned(&old).map(|gate| *gate.state());
+    seen.same("version 1", turned.map(|state| state == *gate.state()), Ok(true));
+    let mut longer = [0; STATE];
+    longer[..STATE_1].copy_from_slice(&old);
+    seen.same("not turned", Gate::restored(longer).tick(9000), Verdict::Refused(Refusal::Buffer));
+}
+
 fn main() -> ExitCode {
     let mut seen = Seen { looked: 0, surprises: 0 };
     let mut counters = [0; 32];
@@ -203,6 +247,8 @@ fn main() -> ExitCode {
             come_back(&mut seen, &settings);
             bytes(&mut seen, &mut gate);
             lacking(&mut seen, &settings);
+            timed(&mut seen, &settings);
+            turned(&mut seen, &gate);
         }
         Err(verdict) => {
             eprintln!("use.rs: not opened: {verdict:?}");

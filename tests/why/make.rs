@@ -154,7 +154,8 @@ impl Maker {
         let broken = [
             (LETTERS, 0x5052_5700),
             (VERSION, 0),
-            (VERSION, 2),
+            (VERSION, 1),
+            (VERSION, 3),
             (OPENED, 100_001),
             (LAST, LATEST + 1),
             (IMSI, 232_831),
@@ -174,7 +175,7 @@ impl Maker {
             (LENGTHS, 256),
             (LISTS, 100_001),
             (LISTS + 1, 0),
-            (PLACES - 1, 1),
+            (DUE - 1, 1),
         ];
         for (place, value) in broken {
             let mut state = full(&mut self.random, 2, 1, 1, 255, 3);
@@ -185,13 +186,16 @@ impl Maker {
         self.case(&[u32::MAX; PLACES], u32::MAX, u32::MAX)
     }
 
-    /// Files of other lengths, good as far as they go.
+    /// Files of other lengths, good as far as they go; one of them is a good buffer of version 1.
     fn lengths(&mut self) -> io::Result<()> {
-        let state = bytes(&full(&mut self.random, 3, 0, 1, 255, 3));
-        for length in [0, 1, 4, 5_316, 5_319, 5_321, 5_324, 10_640] {
-            let mut file = state.clone();
-            file.resize(length, 0);
-            self.file(&file, 100_000, 3, "1 0\n")?;
+        for version in [1, 2] {
+            let mut state = full(&mut self.random, 3, 0, 1, 255, 3);
+            state[VERSION] = version;
+            for length in [0, 1, 4, 5_320, 5_323, 5_325, 5_328, 10_648] {
+                let mut file = bytes(&state);
+                file.resize(length, 0);
+                self.file(&file, 100_000, 3, "1 0\n")?;
+            }
         }
         Ok(())
     }
@@ -343,6 +347,18 @@ impl Maker {
         columns.ask(104, 1);
         columns.reject(105, 1, 6, 0, 1);
         self.trace("both", &columns, &[(106, 0), (106, 1), (207, 0), (208, 0), (256, 1), (257, 1)])?;
+
+        // A reset is due, N1 holds it back until 3600, and then N1 counts it.
+        let mut timed = Trace::new();
+        timed.open(0, 1_010_123_456_789, [1, 1, 0, 0, 0, 0], 0, 0);
+        timed.ask(0, 5);
+        timed.ask(1, 0);
+        timed.reject(2, 0, 2, 0, 0);
+        timed.clock(333);
+        self.trace("due", &timed, &[(333, 5), (3599, 5), (3600, 5)])?;
+        timed.clock(3599);
+        timed.clock(3600);
+        self.trace("ordered", &timed, &[(3600, 5), (7199, 5), (7200, 5), (3600, 0)])?;
 
         let mut long = Trace::new();
         long.open(4_294_967, LARGEST_IMSI, [0; 6], 0, 255);
