@@ -47,8 +47,8 @@ fn tick(time: u32) -> Call {
 }
 
 impl Bench {
-    /// Counts what an accepted call met of the timed reset. The due time must be kept by all but the
-    /// few that set it or end it, and 12 come from a clock call alone.
+    /// Counts what an accepted call met of the timed reset. The due time must be kept by all but
+    /// the few that set it or end it, and 12 come from a clock call alone.
     pub fn count_timed(&mut self, call: &Call, (number, _): Answer, found: Option<Waiting>, s: &[u32]) {
         let (Some(Waiting(before)), 0 | 6..) = (found, number) else {
             return;
@@ -288,9 +288,9 @@ impl Bench {
         }
     }
 
-    /// Every cause in every column, with T1 0, small and high, RPM and NFM off and on, and a due time
-    /// that is not set, past, to come or never; then the clock calls. Gives back how many rejections
-    /// that were.
+    /// Every cause in every column, with T1 0, small and high, RPM and NFM off and on, and a due
+    /// time that is not set, past, to come or never; then the clock calls. Gives back how many
+    /// rejections that were.
     fn every_rejection(&mut self) -> u64 {
         let mut rejections = 0;
         for (column, service) in [(0, 0), (1, 1), (2, 2), (3, 3), (4, 3)] {
@@ -352,8 +352,8 @@ impl Bench {
         }
     }
 
-    /// A clock call at that time, one more and a request; then anew with the request first, before it
-    /// perhaps a drop, and a clock call at the latest time.
+    /// A clock call at that time, one more and a request; then anew with the request first, before
+    /// it perhaps a drop, and a clock call at the latest time.
     fn try_ticks(&mut self, state: &[u32], time: u32) {
         let kind = self.random.pick(&[0, 1, 2, 3, 4, 5, 5, 5]);
         let mut pair = self.pair(state);
@@ -369,9 +369,9 @@ impl Bench {
         self.call(&mut pair, &tick(LATEST));
     }
 
-    /// C-R-1 at its edges, with no leak point, one and many between the last time and the clock call,
-    /// and a reset that is ordered or that N1 holds back: it rises after its leak. Gives back how many
-    /// clock calls that were.
+    /// C-R-1 at its edges, with no leak point, one and many between the last time and the clock
+    /// call, and a reset that is ordered or that N1 holds back: it rises after its leak. Gives back
+    /// how many clock calls that were.
     fn raised(&mut self) -> u64 {
         let before = self.calls;
         for rate in [0, 1, 2, 255] {
@@ -412,7 +412,8 @@ impl Bench {
     }
 
     /// As many ordered resets as N1 has, and requested ones among them: then a request 5 is blocked
-    /// until the first of them leaves the hour, and so is the next ordered one; `why` names its time.
+    /// until the first of them leaves the hour, and so is the next ordered one; `why` names its
+    /// time.
     fn counted_resets(&mut self) {
         for n1 in [1, 2, 3, 5, 8] {
             for turn in 0..20 {

@@ -127,8 +127,8 @@ impl Bench {
         s
     }
 
-    /// A time at an edge of what the state holds: an end, the due time, a permit's hour, a leak point;
-    /// one less or one more.
+    /// A time at an edge of what the state holds: an end, the due time, a permit's hour, a leak
+    /// point; one less or one more.
     fn edge_time(&mut self, s: &[u32]) -> u64 {
         let random = &mut self.random;
         let (opened, last) = (u64::from(s[OPENED]), u64::from(s[LAST]));

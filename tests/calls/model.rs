@@ -1,9 +1,9 @@
-//! A model of the twelve calls, eleven of them on the buffer of 1,331 numbers, written from document
-//! 01 and from the customer's requests, §1 for `why`, §2 for the files of an opening, §3 for the
-//! wait, §4 for the seconds of a limit, §6, with section 7.5 of 000, for causes and `error`, and §7,
-//! with RMM6 to RMM8 and RTC1 of 000, for the timed reset and `turn`, and from nothing else. It is
-//! plain and slow on purpose: each part names the heading that it follows, to be read beside it. It
-//! never panics, whatever it is given.
+//! A model of the twelve calls, eleven of them on the buffer of 1,331 numbers, written from
+//! document 01 and from the customer's requests, §1 for `why`, §2 for the files of an opening, §3
+//! for the wait, §4 for the seconds of a limit, §6, with section 7.5 of 000, for causes and
+//! `error`, and §7, with RMM6 to RMM8 and RTC1 of 000, for the timed reset and `turn`, and from
+//! nothing else. It is plain and slow on purpose: each part names the heading that it follows, to
+//! be read beside it. It never panics, whatever it is given.
 #![forbid(unsafe_code)]
 
 /// The two numbers given back.
@@ -177,8 +177,8 @@ pub fn open(
     if time > LATEST {
         return (3, 0);
     }
-    // "A new buffer is idle and clear, ... failures and ends 0, lists empty; Start Timer is 0", and no
-    // due time is set: all that is not named below is 0.
+    // "A new buffer is idle and clear, ... failures and ends 0, lists empty; Start Timer is 0", and
+    // no due time is set: all that is not named below is 0.
     s.fill(0);
     s[LETTERS] = MAGIC;
     s[VERSION] = 2;
@@ -587,8 +587,8 @@ pub fn rejected(s: &mut [u32], time: u32, service: u32, cause: u32, second: u32,
     answer
 }
 
-/// §7, "The timed reset". RMM6: MM 2, 3 and 6 and GMM 2, 3, 6, 7 and 8 are permanent; "disabled if T1
-/// is set to 0"; "not be re-started if an instance of the same timer is already running". It is
+/// §7, "The timed reset". RMM6: MM 2, 3 and 6 and GMM 2, 3, 6, 7 and 8 are permanent; "disabled if
+/// T1 is set to 0"; "not be re-started if an instance of the same timer is already running". It is
 /// RPM's, so it waits for nothing while RPM is 0.
 fn set_due(s: &mut [u32], time: u32, column: u32, cause: u32) {
     let permanent: &[u32] = match column {
@@ -659,9 +659,9 @@ pub fn dropped(s: &mut [u32], time: u32) -> Answer {
     (0, 0)
 }
 
-/// "The clock call has only a time", and by §7 it alone orders a reset: "the first one not before the
-/// due time at which N1, if it applies, is not full, and never while RPM is 0". N1 applies, and is
-/// full, as for request 5.
+/// "The clock call has only a time", and by §7 it alone orders a reset: "the first one not before
+/// the due time at which N1, if it applies, is not full, and never while RPM is 0". N1 applies, and
+/// is full, as for request 5.
 pub fn tick(s: &mut [u32], time: u32) -> Answer {
     if let Err(refused) = accept(s, true, time, |_| true) {
         return refused;
@@ -670,8 +670,8 @@ pub fn tick(s: &mut [u32], time: u32) -> Answer {
     if !waits || time < s[DUE] || first_limit(s, time, 5).is_some() {
         return (0, 0);
     }
-    // "Adds one to C-R-1, at most 255, enters the reset list ..., makes all services idle as request 5
-    // does and ends the due time."
+    // "Adds one to C-R-1, at most 255, enters the reset list ..., makes all services idle as
+    // request 5 does and ends the due time."
     s[C_R_1] = (s[C_R_1] + 1).min(255);
     append(s, RESET, time);
     s[39..=42].fill(IDLE);

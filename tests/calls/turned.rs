@@ -136,8 +136,9 @@ impl Bench {
         }
     }
 
-    /// Every other call, on a good buffer of version 1, on one of version 1 and the length of version
-    /// 2, and on one of version 2 and the length of version 1. Opening alone asks for no version.
+    /// Every other call, on a good buffer of version 1, on one of version 1 and the length of
+    /// version 2, and on one of version 2 and the length of version 1. Opening alone asks for no
+    /// version.
     fn other_versions(&mut self) {
         for _ in 0..40 {
             let state = self.good_state();

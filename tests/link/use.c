@@ -234,8 +234,9 @@ static void columns(void)
          DIALCHISEL_REFUSED_RANGE, 0);
 }
 
-/* A registration is rejected for good, and no application resets the module: the gate orders it once
- * T1, 6 minutes within a tenth, is over. With N1 = 1 the next reset has to wait for an hour. */
+/* A registration is rejected for good, and no application resets the module: the gate orders it
+ * once T1, 6 minutes within a tenth, is over. With N1 = 1 the next reset has to wait for an
+ * hour. */
 static void timed(void)
 {
     const uint8_t params[DIALCHISEL_PARAMETER_FILE] = {1, 1};

@@ -177,8 +177,8 @@ fn lacking(seen: &mut Seen, settings: &Settings) {
     seen.same("parameters too short", taken(&Settings { parameters: Some(&[0; 31]), ..bare }), refused);
 }
 
-/// A registration rejected for good, twice: the first time the gate orders the reset, the second time
-/// the application is before it. N1 = 6, T1 = 1.
+/// A registration rejected for good, twice: the first time the gate orders the reset, the second
+/// time the application is before it. N1 = 6, T1 = 1.
 fn timed(seen: &mut Seen, settings: &Settings) {
     let mut parameters = [0; 32];
     parameters[..2].copy_from_slice(&[6, 1]);

@@ -224,7 +224,7 @@ class Maker:
     # Times
 
     def edge(self):
-        """A time next to where a back-off ends, a reset is due or a permit leaves the hour, or None."""
+        """A time next to a back-off's end, a due time or a permit's leaving the hour, or None."""
         r, idea = self.r, self.idea
         if r.random() < 0.5:
             near = [end + d for end in (*idea.ends, idea.due) if end for d in (-1, 0, 1)]
