@@ -400,14 +400,19 @@ impl Bench {
     fn damage_at_once(&mut self) {
         for _ in 0..10_000 {
             let state = self.good_state();
-            let mut damaged = state.clone();
-            for _ in 0..2 + self.random.below(4) {
-                let place = if self.random.chance(60) { self.random.below(56) } else { self.random.below(PLACES as u64) } as usize;
-                let small = self.random.number(4);
-                damaged[place] = self.random.pick(&[small, small, state[LAST], state[place].wrapping_add(1), u32::MAX]);
-            }
+            let damaged = self.damaged_at_once(&state);
             self.try_damaged(&state, &damaged);
         }
+    }
+
+    fn damaged_at_once(&mut self, state: &[u32]) -> Vec<u32> {
+        let mut damaged = state.to_vec();
+        for _ in 0..2 + self.random.below(4) {
+            let place = if self.random.chance(60) { self.random.below(56) } else { self.random.below(state.len() as u64) } as usize;
+            let small = self.random.number(4);
+            damaged[place] = self.random.pick(&[small, small, state[LAST], state[place].wrapping_add(1), u32::MAX]);
+        }
+        damaged
     }
 
     /// A clock call that only damage can refuse, any call that the state before the damage would bring about, and now and then an opening.

@@ -153,8 +153,7 @@ impl Bench {
         self.counted_resets();
         self.timed_sequences();
         let calls = self.calls - before;
-        let counts = format!("{times} due times drawn, {rejections} rejections by every cause, {ticks} clock calls in all cases");
-        println!("due: {calls} calls, with {counts}, no difference");
+        println!("due: {calls} calls, no difference: {times} due times drawn, {rejections} rejections by every cause, {ticks} clock calls");
     }
 
     /// An opening with this N1 and T1.
@@ -314,8 +313,8 @@ impl Bench {
         rejections
     }
 
-    /// Clock calls over due times, N1, resets in the hour and RPM, each twice; then every request,
-    /// with `why` before it. Gives back how many that were.
+    /// Clock calls over due times, N1, resets in the hour and RPM. Gives back how many cases that
+    /// were.
     fn clock_calls(&mut self) -> u64 {
         let mut ticks = 0;
         for n1 in [0, 1, 2, 254, 255] {

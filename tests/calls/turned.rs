@@ -85,7 +85,7 @@ impl Bench {
     }
 
     /// Every place of an old one damaged with every edge, on each state that `base` makes and on a
-    /// new one for each place.
+    /// new one for each place; then several places at once.
     fn turned_damage(&mut self) {
         for which in 0..5 {
             let mut old = older(self.base(which));
@@ -98,13 +98,24 @@ impl Bench {
                 for value in EDGES.into_iter().chain(near.iter().flat_map(|&n| [n.wrapping_sub(1), n, n.wrapping_add(1)])) {
                     let mut damaged = old.clone();
                     damaged[place] = value;
-                    if good_1(&damaged) {
-                        self.expect(&mut pair, Call::Turn { old: damaged }, (0, 0));
-                    } else {
-                        self.not_turned(&mut pair, damaged, "an old one damaged");
-                    }
+                    self.turn_damaged(&mut pair, damaged);
                 }
             }
+        }
+        for _ in 0..10_000 {
+            let old = older(self.good_state());
+            let damaged = self.damaged_at_once(&old);
+            let mut pair = self.rubbish(PLACES);
+            self.turn_damaged(&mut pair, damaged);
+        }
+    }
+
+    /// Turns one that was damaged and may still be good.
+    fn turn_damaged(&mut self, pair: &mut Pair, old: Vec<u32>) {
+        if good_1(&old) {
+            self.expect(pair, Call::Turn { old }, (0, 0));
+        } else {
+            self.not_turned(pair, old, "an old one damaged");
         }
     }
 

@@ -76,7 +76,7 @@ class Timed:
             self.begin()
             self.ends = [(due, "an opening")] if due else []
         elif letter == "A":
-            self.through |= {rest[:8]} if rest[:8] in STAYS and rest[8:9] != "?" else set()
+            self.through |= {rest[:8]} & set(STAYS)
         elif letter == "T":
             self.tick(idea, int(rest), number)
         elif letter == "Q":
