@@ -5,7 +5,7 @@ use mathlib.Core.Bool.{Bool, true, false, cond, _&&_, false≢true}
 use mathlib.Core.List.{List, [], _++_, append-nil}
 use mathlib.Core.Logic.{_≢_}
 use lib.Dec.{leb, eqb}
-use borrow.Author.Tests.{leb-true, le-leb, eqb-false, eqb-true, ne-eqb}
+use borrow.Author.Tests.{leb-true, le-leb, eqb-false, eqb-true}
 use native.Mathlib.Omega.{arith}
 use Rattle.rules.specs.declared.Answer.{Answer}
 use Rattle.rules.specs.Calls.{Outcome, Event, ask, outcome, dropped, tick, granted, silent, rejected, nfm, nfm-start, intervals, query, bad, Call, timed, typed, answer}
@@ -116,10 +116,10 @@ passes f t e r l h s = rw (r, le-leb (f .last) t l, le-leb t highestTime h, s)
 -- a refused call is added to no list, and changes nothing
 refused-enters : (e : Event) (n : ℕ) (k : Kind) → among n refusals ≡ true → enters e n k ≡ false
 unfolding enters
-refused-enters (ask q) n k h = rw (ne-eqb n 0 (among-all (λ m. m ≢ 0) n refusals (omega arith) h))
+refused-enters (ask q) n k h = among-all (λ m. enters (ask q) m k ≡ false) n refusals (refl, (refl, (refl, (refl, (refl, tt))))) h
 refused-enters (outcome s o) n k h = refl
 refused-enters dropped n k h = refl
-refused-enters tick n k h = rw (ne-eqb n 12 (among-all (λ m. m ≢ 12) n refusals (omega arith) h))
+refused-enters tick n k h = among-all (λ m. enters tick m k ≡ false) n refusals (refl, (refl, (refl, (refl, (refl, tt))))) h
 
 pub refused-adds : (k : Kind) (c : Call) (a : Answer) → refused a ≡ true → adds k c a ≡ []
 unfolding adds

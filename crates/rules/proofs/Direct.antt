@@ -1,20 +1,21 @@
 -- Whoever gives each number when its line says keeps the sentences of demand 3, over any record
 -- whose permits rise: they follow from the lines, without the rules. Assumes nothing.
 use Prim.Native.Nat.{ℕ, _+_, _≤_, _<_}
-use mathlib.Core.Path.{_≡_, refl, sym, ap, _∙_}
-use mathlib.Core.Bool.{Bool, true, false, cond, false≢true}
+use mathlib.Core.Path.{_≡_, refl, sym, _∙_}
+use mathlib.Core.Bool.{Bool, true, false, cond, _&&_, false≢true}
 use mathlib.Core.List.{List, [], _∷_, _++_}
 use mathlib.Core.Logic.{inl, inr, _≢_}
 use lib.Dec.{ltb, eqb}
-use borrow.Author.Tests.{ltb-true, ltb-false, lt-ltb, eq-eqb}
+use borrow.Author.Tests.{ltb-true, ltb-false, lt-ltb, eqb-true, eq-eqb, ne-eqb}
 use native.Mathlib.Omega.{arith}
 use Rattle.rules.specs.declared.Answer.{Answer}
-use Rattle.rules.specs.Calls.{Outcome, ask, outcome, rejected, Call, timed, Entry, entry, answer}
+use Rattle.rules.specs.Calls.{Opening, Outcome, Event, ask, outcome, granted, silent, rejected, dropped, tick, Call, timed, typed, Entry, entry, answer}
 use Rattle.rules.specs.Causes.{Action, back-off as backing, both-back-off, re-attach, other-network, as-3GPP, not-same-PLMN, not-same-area, not-same-cell, reactivate, re-establish, numberOf, printed, action}
 use Rattle.rules.specs.Tables.{inHour, fromNewest, freeIn, Kind, goes, among, limiting, permanent, delayFor}
 use Rattle.rules.specs.State.{State}
-use Rattle.rules.specs.Record.{lastTime, permits, standing, dueNow}
-use Rattle.rules.specs.Direct.{Accepted, Limited, N1, F1, F2, F3, F4, A1, S1, Over, WithinLimits, Free, nextWait, BacksOff, backs-off, Due, Orders, orders, Sends, by-permit, by-order, Given, permitted, on-grant, on-drop, on-tick, on-line, out-of-range, out-of-time, wrong-standing, not-as-above, held, blocked, ordered, backed-off, in-its-place, other-action, Breaks, back-off, limit, Direct}
+use Rattle.rules.specs.Record.{lastTime, permits, standing, startsT1, dueNow}
+use Rattle.rules.specs.Direct.{Accepted, Limited, N1, F1, F2, F3, F4, A1, S1, Over, WithinLimits, Free, nextWait, BacksOff, backs-off, RunsT1, runs, Due, Orders, orders, Sends, by-permit, by-order, Given, permitted, on-grant, on-drop, on-tick, on-line, out-of-range, out-of-time, wrong-standing, not-as-above, held, blocked, ordered, backed-off, in-its-place, other-action, Breaks, back-off, limit, Direct}
+use Rattle.rules.proofs.Checks.{and-left, and-right}
 use Rattle.rules.proofs.Newest.{rising-more}
 use Rattle.rules.proofs.Hour.{rising-at}
 use Rattle.rules.proofs.Limited.{either}
@@ -93,11 +94,15 @@ module _ (g : State) (past : List Entry) where
   sent (wrong-standing x y z) e by-order = absurd (omega arith)
   sent (ordered x d) e by-order = record { late = x .in-time .not-below; keeps = λ n L k. in-N1 d }
 
+  listed : {t m q : ℕ} {c : Call} (a : Answer) → Sends t c m q → a .number ≡ m → (k : Kind) → goes q k ≡ true
+      → permits g k (entry c a ∷ past) ≡ permits g k past ++ (t ∷ [])
+  unfolding permits
+  listed a by-permit e k h = rw (e, h)
+  listed a by-order e k h = rw (e, h)
+
   few : (t m q : ℕ) (c : Call) (a : Answer) → Sends t c m q → Given g past c a → a .number ≡ m → (n L : ℕ) (k : Kind) → Limited g past q n L k → 0 < L
       → inHour t (permits g k (entry c a ∷ past)) ≤ L
-  unfolding permits
-  few t m q c a by-permit x e n L k l above = rw (e, counts-own l) (not-over t L k above (sent x e by-permit .keeps n L k l))
-  few t m q c a by-order x e n L k l above = rw (e, counts-own l) (not-over t L k above (sent x e by-order .keeps n L k l))
+  few t m q c a s x e n L k l above = rw (listed a s e k (counts-own l)) (not-over t L k above (sent x e s .keeps n L k l))
 
   reset-free : {t : ℕ} {a : Answer} → Given g past (timed t (ask 5)) a → a .number ≢ 10
   reset-free (permitted x free keeps) e = omega arith
@@ -230,18 +235,67 @@ module _ (g : State) (past : List Entry) where
   reset-now (wrong-standing r i x) (orders y d) = absurd (x (y .fits))
   reset-now (ordered x h) (orders y d) = refl
 
-  all-idle : (c : Call) (a : Answer) → Orders g past c → a .number ≡ 12 → (s : ℕ) → standing g s (entry c a ∷ past) ≡ 0
+  -- ---- What is known after an answer
+
+  all-idle : {t m : ℕ} {c : Call} (a : Answer) → Sends t c m 5 → a .number ≡ m → (s : ℕ) → standing g s (entry c a ∷ past) ≡ 0
   unfolding standing
-  all-idle c a (orders y d) e s = rw e
+  all-idle a by-permit e s = rw e
+  all-idle a by-order e s = rw e
 
-  none-due : (c : Call) (a : Answer) → Orders g past c → a .number ≡ 12 → dueNow g (entry c a ∷ past) ≡ 0
+  none-due : {t m : ℕ} {c : Call} (a : Answer) → Sends t c m 5 → a .number ≡ m → dueNow g (entry c a ∷ past) ≡ 0
   unfolding dueNow
-  none-due c a (orders y d) e = rw e
+  none-due a by-permit e = rw e
+  none-due a by-order e = rw e
 
-  pub runs-T1 : (t s cause second column : ℕ) (a : Answer) → permanent column cause ≡ true → 0 < g .facts .opening .T1 → g .facts .opening .rpm ≡ 1 → dueNow g past ≡ 0
-      → dueNow g (entry (timed t (outcome s (rejected cause second column))) a ∷ past) ≡ t + delayFor (g .facts .opening .imsi) (g .facts .opening .T1)
+  kept : (b : Bool) (x y : ℕ) → cond (b && false) x y ≡ y
+  kept true x y = refl
+  kept false x y = refl
+
+  pub due-kept : (c : Call) (a : Answer) → ((t : ℕ) → Sends t c (a .number) 5 → ⊥) → dueNow g past ≢ 0 → dueNow g (entry c a ∷ past) ≡ dueNow g past
   unfolding dueNow
-  runs-T1 t s cause second column a p above on z = rw (p, lt-ltb 0 (g .facts .opening .T1) above, eq-eqb (g .facts .opening .rpm) 1 on, eq-eqb (dueNow g past) 0 z)
+  due-kept (timed t (ask q)) a h z = go (eqb (a .number) 0) (eqb q 5) refl refl
+    where
+      go : (x y : Bool) → eqb (a .number) 0 ≡ x → eqb q 5 ≡ y → cond (x && y) 0 (dueNow g past) ≡ dueNow g past
+      go true true e f = absurd (h t (rw (eqb-true (a .number) 0 e, eqb-true q 5 f) by-permit))
+      go true false e f = refl
+      go false y e f = refl
+  due-kept (timed t (outcome s x)) a h z = rw (ne-eqb (dueNow g past) 0 z) (kept (startsT1 (g .facts .opening) x) _ (dueNow g past))
+  due-kept (timed t dropped) a h z = refl
+  due-kept (timed t tick) a h z = go (eqb (a .number) 12) refl
+    where
+      go : (x : Bool) → eqb (a .number) 12 ≡ x → cond x 0 (dueNow g past) ≡ dueNow g past
+      go true e = absurd (h t (rw (eqb-true (a .number) 12 e) by-order))
+      go false e = refl
+  due-kept (typed l) a h z = refl
+
+  pub due-set : (t : ℕ) (e : Event) (a : Answer) → RunsT1 g past (timed t e) → dueNow g past ≡ 0
+      → dueNow g (entry (timed t e) a ∷ past) ≡ t + delayFor (g .facts .opening .imsi) (g .facts .opening .T1)
+  unfolding dueNow
+  due-set t (outcome s (rejected cause second column)) a (runs p above on) z =
+      rw (p, lt-ltb 0 (g .facts .opening .T1) above, eq-eqb (g .facts .opening .rpm) 1 on, eq-eqb (dueNow g past) 0 z)
+
+  zero : (b : Bool) {n : ℕ} → n ≡ 0 → cond b 0 n ≡ 0
+  zero true z = refl
+  zero false z = z
+
+  not-set : (c : Call) (a : Answer) → (RunsT1 g past c → ⊥) → dueNow g past ≡ 0 → dueNow g (entry c a ∷ past) ≡ 0
+  unfolding dueNow
+  not-set (timed t (ask q)) a h z = zero (eqb (a .number) 0 && eqb q 5) z
+  not-set (timed t (outcome s granted)) a h z = z
+  not-set (timed t (outcome s silent)) a h z = z
+  not-set (timed t (outcome s (rejected cause second column))) a h z = go (startsT1 (g .facts .opening) (rejected cause second column)) refl
+    where
+      o : Opening
+      o = g .facts .opening
+
+      go : (b : Bool) → startsT1 o (rejected cause second column) ≡ b → cond (b && eqb (dueNow g past) 0) (t + delayFor (o .imsi) (o .T1)) (dueNow g past) ≡ 0
+      go false e = z
+      go true e =
+          let rest = and-right (permanent column cause) _ e in
+          absurd (h (runs (and-left (permanent column cause) _ e) (ltb-true 0 (o .T1) (and-left (ltb 0 (o .T1)) _ rest)) (eqb-true (o .rpm) 1 (and-right (ltb 0 (o .T1)) _ rest))))
+  not-set (timed t dropped) a h z = z
+  not-set (timed t tick) a h z = zero (eqb (a .number) 12) z
+  not-set (typed l) a h z = z
 
   -- ---- The sentences
 
@@ -250,6 +304,7 @@ module _ (g : State) (past : List Entry) where
     given = lines;
     no-permit-in-back-off = λ t q e. not-held (lines (timed t (ask q))) e;
     resets-not-held = λ t. reset-free (lines (timed t (ask 5)));
+    listed-then = λ t c q s. listed (next c) s refl;
     at-most = λ t c q s. few t (next c .number) q c (next c) s (lines c) refl;
     blocked-by-a-rule = λ t q x e. breaks (lines (timed t (ask q))) x e;
     else-permitted = λ t q x h. else-permits (lines (timed t (ask q))) x h;
@@ -260,7 +315,9 @@ module _ (g : State) (past : List Entry) where
     and-no-other = λ t s o x u r. stays-unreached g past t s o (next (timed t (outcome s o))) x u r;
     orders-then = λ c x. reset-now (lines c) x;
     orders-only-then = λ c e. twelve (lines c) e;
-    idle-then = λ c x. all-idle c (next c) x (ap (λ (a : Answer). a .number) (reset-now (lines c) x));
-    due-no-more = λ c x. none-due c (next c) x (ap (λ (a : Answer). a .number) (reset-now (lines c) x));
-    T1-runs = λ t s cause second column x p above on z. runs-T1 t s cause second column (next (timed t (outcome s (rejected cause second column)))) p above on z;
+    all-idle-then = λ t c x. all-idle (next c) x refl;
+    due-no-more = λ t c x. none-due (next c) x refl;
+    else-stays = λ c h z. due-kept c (next c) h z;
+    set-then = λ t e x z. due-set t e (next (timed t e)) x z;
+    set-only-then = λ c h z. not-set c (next c) h z;
   }

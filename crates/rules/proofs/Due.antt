@@ -3,22 +3,20 @@
 -- nothing.
 use Prim.Native.Nat.{ℕ, _+_, _*_, _%_, _≤_, _<_}
 use mathlib.Core.Path.{_≡_, refl, _∙_}
-use mathlib.Core.Bool.{Bool, true, false, cond, _&&_}
+use mathlib.Core.Bool.{true}
 use mathlib.Core.List.{List, [], _∷_, _++_}
 use mathlib.Core.Logic.{_≢_}
-use lib.Dec.{eqb}
-use borrow.Author.Tests.{eqb-true, ne-eqb}
 use native.Mathlib.Nat.{mod-lt}
 use native.Mathlib.Omega.{arith}
 use Rattle.mixing.specs.Mixing.{drawn}
 use Rattle.rules.specs.declared.Answer.{Answer}
-use Rattle.rules.specs.Calls.{Opening, ask, outcome, rejected, dropped, tick, Call, timed, typed, Entry, entry, answer}
+use Rattle.rules.specs.Calls.{outcome, rejected, tick, Call, timed, Entry, entry, answer}
 use Rattle.rules.specs.Tables.{permanent, delayFor}
 use Rattle.rules.specs.State.{State}
-use Rattle.rules.specs.Record.{startsT1, dueAfter, dueNow}
-use Rattle.rules.specs.Direct.{Sends, by-permit, by-order, Orders, orders, Direct}
+use Rattle.rules.specs.Record.{dueNow}
+use Rattle.rules.specs.Direct.{runs, Orders, orders, Direct}
 use Rattle.rules.specs.Demand3.{NoReset, InTheWindow}
-use Rattle.rules.proofs.Direct.{runs-T1}
+use Rattle.rules.proofs.Direct.{due-kept, due-set}
 
 -- ---- The window
 
@@ -30,32 +28,11 @@ window imsi T1 =
 
 -- ---- A due time stays
 
-kept : (b : Bool) (x y : ℕ) → cond (b && false) x y ≡ y
-kept true x y = refl
-kept false x y = refl
-
-stays : (o : Opening) (c : Call) (n d : ℕ) → ((t : ℕ) → Sends t c n 5 → ⊥) → d ≢ 0 → dueAfter o c n d ≡ d
-stays o (timed t (ask q)) n d h z = go (eqb n 0) (eqb q 5) refl refl
-  where
-    go : (x y : Bool) → eqb n 0 ≡ x → eqb q 5 ≡ y → cond (x && y) 0 d ≡ d
-    go true true e f = absurd (h t (rw (eqb-true n 0 e, eqb-true q 5 f) by-permit))
-    go true false e f = refl
-    go false y e f = refl
-stays o (timed t (outcome s x)) n d h z = rw (ne-eqb d 0 z) (kept (startsT1 o x) _ d)
-stays o (timed t dropped) n d h z = refl
-stays o (timed t tick) n d h z = go (eqb n 12) refl
-  where
-    go : (x : Bool) → eqb n 12 ≡ x → cond x 0 d ≡ d
-    go true e = absurd (h t (rw (eqb-true n 12 e) by-order))
-    go false e = refl
-stays o (typed l) n d h z = refl
-
 due-stays : (g : State) (past : List Entry) → dueNow g past ≢ 0 → (later : List Entry) → NoReset later → dueNow g (later ++ past) ≡ dueNow g past
-unfolding dueNow
 due-stays g past z [] h = refl
 due-stays g past z (x ∷ later) h =
     let e = due-stays g past z later (h .1) in
-    stays (g .facts .opening) (x .call) (x .answer .number) (dueNow g (later ++ past)) (h .0) (rw e z) ∙ e
+    due-kept g (later ++ past) (x .call) (x .answer) (h .0) (rw e z) ∙ e
 
 -- ---- So the reset comes in the window, whoever keeps the sentences of demand 3
 
@@ -81,5 +58,5 @@ pub not-dead : (g : State) (past : List Entry) (p s cause second column : ℕ) (
     → InTheWindow g (later ++ (entry (timed p (outcome s (rejected cause second column))) a ∷ past)) p next
 not-dead g past p s cause second column a c above on z later h next d =
     let w = window (g .facts .opening .imsi) (g .facts .opening .T1) in
-    let e = runs-T1 g past p s cause second column a c above on z in
+    let e = due-set g past p (outcome s (rejected cause second column)) a (runs c above on) z in
     in-the-window g _ p (due-stays g _ (λ x. omega (arith, w .0, above, x, e)) later h ∙ e) on above next d

@@ -13,10 +13,10 @@ use native.Mathlib.Omega.{arith}
 use Rattle.rules.specs.declared.Answer.{Answer}
 use Rattle.rules.specs.Calls.{Outcome, Event, ask, outcome, granted, silent, rejected, dropped, tick, Call, timed, typed, Entry, answer}
 use Rattle.rules.specs.Causes.{action}
-use Rattle.rules.specs.Tables.{within, inHour, fromNewest, freeIn, Kind, reset, rank}
+use Rattle.rules.specs.Tables.{within, inHour, fromNewest, freeIn, Kind, rank}
 use Rattle.rules.specs.State.{State, Facts}
 use Rattle.rules.specs.Record.{lastTime, nfmNow, permits, toBackOff, failures, backOffEnd, dueNow}
-use Rattle.rules.specs.Rules.{Limit, limit, blocks, blockedBy, firstBlock, inRange, timely, stands, runs, wait, failed, orders, verdict}
+use Rattle.rules.specs.Rules.{Limit, blocks, blockedBy, firstBlock, inRange, timely, stands, runs, wait, failed, isDue, onReset, orders, verdict}
 use Rattle.rules.specs.Told.{tells, ruled}
 use Rattle.rules.specs.Direct.{Accepted, Limited, Over, Until, WithinLimits, Free, nextWait, Due, Given, permitted, on-grant, on-drop, on-tick, on-line, out-of-range, out-of-time, wrong-standing, not-as-above, held, blocked, ordered, backed-off, in-its-place, other-action}
 use Rattle.rules.proofs.Checks.{and-left, and-right}
@@ -41,10 +41,6 @@ abbrev pub Rises : State → List Entry → Type 0
 Rises g past = (k : Kind) → Rising (g .facts .opening .opened) (permits g k past) (lastTime g past)
 
 module _ (g : State) (past : List Entry) where
-  -- N1 where it applies
-  N1-row : Limit
-  N1-row = limit 11 true (g .facts .opening .N1) reset
-
   -- ---- A row blocks just when it applies and a permit would be one too many
 
   pub blocks-over : (u : ℕ) (r : Limit) → blocks (tells g past) u r ≡ true → Over g past u (r .most) (r .kind)
@@ -201,25 +197,26 @@ module _ (g : State) (past : List Entry) where
 
   -- ---- The timed reset: a clock call orders it just when it may
 
-  ordering : (t : ℕ) → Due g past t → orders (tells g past) t ≡ true
-  unfolding orders tells N1-row
-  ordering t d =
-      let free = not-true (blocks (tells g past) t N1-row) (λ e. d .not-full (blocks-over t N1-row e)) in
-      rw (lt-ltb 0 (dueNow g past) (omega (arith, d .set)), le-leb (dueNow g past) t (d .not-before), eq-eqb (g .facts .opening .rpm) 1 (d .on), free)
-
   due-then : (t : ℕ) → orders (tells g past) t ≡ true → Due g past t
-  unfolding orders tells N1-row
+  unfolding orders isDue onReset tells
   due-then t e =
-      let due = and-left (ltb 0 (dueNow g past) && leb (dueNow g past) t) _ e in
-      let rest = and-right (ltb 0 (dueNow g past) && leb (dueNow g past) t) _ e in
-      let some : 0 < dueNow g past = ltb-true 0 (dueNow g past) (and-left (ltb 0 (dueNow g past)) _ due) in
-      let free = and-right (eqb (g .facts .opening .rpm) 1) _ rest in
+      let due = and-left (isDue (tells g past .facts) t) _ e in
+      let set = and-left (ltb 0 (dueNow g past) && leb (dueNow g past) t) _ due in
+      let some : 0 < dueNow g past = ltb-true 0 (dueNow g past) (and-left (ltb 0 (dueNow g past)) _ set) in
+      let free = and-right (isDue (tells g past .facts) t) _ e in
       record {
         set = λ z. omega (arith, some, z);
-        not-before = leb-true (dueNow g past) t (and-right (ltb 0 (dueNow g past)) _ due);
-        on = eqb-true (g .facts .opening .rpm) 1 (and-left (eqb (g .facts .opening .rpm) 1) _ rest);
-        not-full = λ v. false≢true (ap not (sym (over-blocks t N1-row refl v)) ∙ free);
+        not-before = leb-true (dueNow g past) t (and-right (ltb 0 (dueNow g past)) _ set);
+        on = eqb-true (g .facts .opening .rpm) 1 (and-right (ltb 0 (dueNow g past) && leb (dueNow g past) t) _ due);
+        not-full = λ v. false≢true (ap not (sym (over-blocks t (onReset (tells g past .facts)) refl v)) ∙ free);
       }
+
+  ordering : (t : ℕ) → Due g past t → orders (tells g past) t ≡ true
+  unfolding orders isDue onReset tells
+  ordering t d =
+      let r = onReset (tells g past .facts) in
+      let free = not-true (blocks (tells g past) t r) (λ e. d .not-full (blocks-over t r e)) in
+      rw (lt-ltb 0 (dueNow g past) (omega (arith, d .set)), le-leb (dueNow g past) t (d .not-before), eq-eqb (g .facts .opening .rpm) 1 (d .on), free)
 
   module _ (t : ℕ) (a : Accepted g past t tick) where
     tick-12 : Due g past t → ruled g past (timed t tick) ≡ answer 12 0

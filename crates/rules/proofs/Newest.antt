@@ -1,7 +1,7 @@
 -- However long the record, the newest 255 of each list give the answers that the full lists give. Assumes nothing.
 use Prim.Native.Nat.{ℕ, zero, suc, _+_, _-_, _≤_, _<_}
 use mathlib.Core.Path.{_≡_, refl, sym, ap, _∙_}
-use mathlib.Core.Bool.{Bool, true, false, cond, _&&_}
+use mathlib.Core.Bool.{Bool, true, false, cond, not, _&&_}
 use mathlib.Core.List.{List, [], _∷_, _++_, append-nil}
 use lib.ListN.{length, getD, drop, length-append, length-drop}
 use lib.Seq.{drop-append-le, drop-drop, getD-drop}
@@ -10,9 +10,9 @@ use borrow.Author.Tests.{ltb-true, leb-true, lt-ltb, le-leb, eqb-true}
 use native.Mathlib.Omega.{arith}
 use Rattle.rules.specs.declared.Answer.{Answer}
 use Rattle.rules.specs.Calls.{ask, outcome, granted, silent, rejected, dropped, tick, nfm, nfm-start, intervals, query, bad, Call, timed, typed, answer}
-use Rattle.rules.specs.Tables.{within, inHour, fromNewest, ascending, Kind, reset}
+use Rattle.rules.specs.Tables.{within, inHour, fromNewest, ascending, Kind}
 use Rattle.rules.specs.Record.{timeOf}
-use Rattle.rules.specs.Rules.{Limit, limit, limits, blocks, firstBlock, orders, refusal, verdict, ruling, refused, moved, acted, switched, obeyed, changed, enters, adds, learn}
+use Rattle.rules.specs.Rules.{Limit, limits, blocks, firstBlock, isDue, onReset, orders, refusal, verdict, ruling, refused, moved, acted, switched, obeyed, changed, enters, adds, learn}
 use Rattle.rules.specs.State.{State, Facts}
 use Rattle.rules.specs.Rules.{known, answers, newest, short, step, held, heldAnswers}
 use Rattle.rules.specs.Demand3.{Bytes}
@@ -175,8 +175,8 @@ module _ (w : State) (s : Sound w) (t : ℕ) (late : w .facts .last ≤ t) where
   ask-same q = rw (first-same (limits (w .facts) q) (limits-small (w .facts) q (s .bytes)))
 
   orders-same : orders (short w) t ≡ orders w t
-  unfolding orders short
-  orders-same = rw (blocks-same (limit 11 true (w .facts .opening .N1) reset) (s .bytes .N1))
+  unfolding orders onReset short
+  orders-same = ap (λ (x : Bool). isDue (w .facts) t && not x) (blocks-same (onReset (w .facts)) (s .bytes .N1))
 
 cond-same : {A : Type 0} (b : Bool) (x y z : A) → (b ≡ true → x ≡ y) → cond b x z ≡ cond b y z
 cond-same true x y z h = h refl

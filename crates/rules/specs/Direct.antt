@@ -10,7 +10,7 @@ use mathlib.Core.Logic.{_⊎_, _≢_}
 use Rattle.rules.specs.declared.Answer.{Answer}
 use Rattle.rules.specs.Calls.{Opening, Outcome, Event, ask, outcome, granted, silent, rejected, dropped, tick, Line, nfm, nfm-start, intervals, query, bad, Call, timed, typed, Entry, entry, answer}
 use Rattle.rules.specs.Causes.{action, both}
-use Rattle.rules.specs.Tables.{highestTime, inHour, freeIn, Kind, attach, activation, pdp, sms, reset, among, limiting, rank, oneMore, waitFor, permanent, delayFor, scheduled}
+use Rattle.rules.specs.Tables.{highestTime, inHour, freeIn, Kind, attach, activation, pdp, sms, reset, goes, among, limiting, rank, oneMore, waitFor, permanent, delayFor, scheduled}
 use Rattle.rules.specs.State.{State}
 use Rattle.rules.specs.Record.{lastTime, nfmNow, intervalsNow, permits, toBackOff, failures, backOffEnd, standing, mood, dueNow}
 
@@ -143,6 +143,12 @@ module _ (g : State) (past : List Entry) where
 
   -- ---- The timed reset
 
+  -- T1 runs from call c: "RPM shall wait for time T1 and reset [..] when the following 'permanent'
+  -- [..] reject causes are received", unless T1 is 0
+  pub data RunsT1 : Call → Type 0 where
+    runs : {t s cause second column : ℕ} → permanent column cause ≡ true → 0 < opening .T1 → opening .rpm ≡ 1
+        → RunsT1 (timed t (outcome s (rejected cause second column)))
+
   -- a reset may be ordered at t: "not before the due time", "N1, if it applies, is not full", "never
   -- while RPM is 0"; a due time of 0 is none
   pub record Due (t : ℕ) : Type 0 where
@@ -203,6 +209,10 @@ module _ (g : State) (past : List Entry) where
     pub no-permit-in-back-off : (t q : ℕ) → next (timed t (ask q)) .number ≡ 0 → Free t q
     -- "resets are not held by one"
     pub resets-not-held : (t : ℕ) → next (timed t (ask 5)) .number ≢ 10
+    -- "A permit at t is added to: attach (0, 1), activation (2), PDP (2, 4), SMS (3), reset (5)", and
+    -- a reset that is ordered "enters the reset list"
+    pub listed-then : (t : ℕ) (c : Call) (q : ℕ) → Sends t c (next c .number) q → (k : Kind) → goes q k ≡ true
+        → permits g k (entry c (next c) ∷ past) ≡ permits g k past ++ (t ∷ [])
     -- "each permit has at most L on its list in the 3,600 seconds that end with it", itself counted,
     -- and so does each reset that is ordered
     pub at-most : (t : ℕ) (c : Call) (q : ℕ) → Sends t c (next c .number) q → (n L : ℕ) (k : Kind) → Limited q n L k → 0 < L
@@ -226,11 +236,13 @@ module _ (g : State) (past : List Entry) where
     -- a reset is ordered by the first clock call that may, and by nothing else
     pub orders-then : (c : Call) → Orders c → next c ≡ answer 12 0
     pub orders-only-then : (c : Call) → next c .number ≡ 12 → Orders c
-    -- "makes all services idle as request 5 does and ends the due time"
-    pub idle-then : (c : Call) → Orders c → (s : ℕ) → standing g s (entry c (next c) ∷ past) ≡ 0
-    pub due-no-more : (c : Call) → Orders c → dueNow g (entry c (next c) ∷ past) ≡ 0
-    -- "RPM shall wait for time T1 and reset": T1 runs from a permanent rejection, while RPM is 1
-    pub T1-runs : (t s cause second column : ℕ) → Accepted t (outcome s (rejected cause second column)) → permanent column cause ≡ true
-        → 0 < opening .T1 → opening .rpm ≡ 1 → dueNow g past ≡ 0
-        → dueNow g (entry (timed t (outcome s (rejected cause second column))) (next (timed t (outcome s (rejected cause second column)))) ∷ past)
-        ≡ t + delayFor (opening .imsi) (opening .T1)
+    -- a reset, asked for or ordered, "makes all services idle [..] and ends the due time"
+    pub all-idle-then : (t : ℕ) (c : Call) → Sends t c (next c .number) 5 → (s : ℕ) → standing g s (entry c (next c) ∷ past) ≡ 0
+    pub due-no-more : (t : ℕ) (c : Call) → Sends t c (next c .number) 5 → dueNow g (entry c (next c) ∷ past) ≡ 0
+    -- "one already set stays" through everything else
+    pub else-stays : (c : Call) → ((t : ℕ) → Sends t c (next c .number) 5 → ⊥) → dueNow g past ≢ 0
+        → dueNow g (entry c (next c) ∷ past) ≡ dueNow g past
+    -- where none is set, a rejection from which T1 runs sets it, and nothing else does
+    pub set-then : (t : ℕ) (e : Event) → RunsT1 (timed t e) → dueNow g past ≡ 0
+        → dueNow g (entry (timed t e) (next (timed t e)) ∷ past) ≡ t + delayFor (opening .imsi) (opening .T1)
+    pub set-only-then : (c : Call) → (RunsT1 c → ⊥) → dueNow g past ≡ 0 → dueNow g (entry c (next c) ∷ past) ≡ 0

@@ -100,12 +100,17 @@ wait f s = waitFor (f .opening .imsi) (f .mode .intervals) (oneMore (getD (f .se
 unfoldable pub failed : Facts → ℕ → ℕ → Answer
 failed f s n = cond (eqb n 20) (cond (eqb (f .mode .nfm) 1) (answer 20 (wait f s)) (answer 23 0)) (answer n 0)
 
--- a clock call at t orders a reset: one is due, and not after t, RPM is 1, and N1 does not block
+-- a reset is due, not after t, and RPM is 1
+unfoldable pub isDue : Facts → ℕ → Bool
+isDue f t = (ltb 0 (f .due) && leb (f .due) t) && eqb (f .opening .rpm) 1
+
+-- N1, on a reset while RPM is 1
+unfoldable pub onReset : Facts → Limit
+onReset f = limit 11 true (f .opening .N1) reset
+
+-- a clock call at t orders a reset: it is due, and N1 does not block it
 unfoldable pub orders : State → ℕ → Bool
-orders w t =
-    let o = w .facts .opening in
-    let due = w .facts .due in
-    (ltb 0 due && leb due t) && (eqb (o .rpm) 1 && not (blocks w t (limit 11 true (o .N1) reset)))
+orders w t = isDue (w .facts) t && not (blocks w t (onReset (w .facts)))
 
 -- the answer to a call that no check refuses; to an AT line the bytes of OK CR LF, and for the read those of +NFM: a,s CR LF besides
 unfoldable pub verdict : State → Call → Answer

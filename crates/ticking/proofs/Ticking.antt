@@ -11,8 +11,7 @@ use lib.ListN.{getD}
 use borrow.Author.Tests.{leb-true, lt-ltb, lt-leb, le-leb, eqb-true, eqb-false, not-true, not-false}
 use Rattle.rules.specs.Calls.{timed, answer}
 use Rattle.rules.specs.declared.Event.the-variants.{Tick as tick}
-use Rattle.rules.specs.Tables.{reset}
-use Rattle.rules.specs.Rules.{limit, limits, blocks, inRange, timely, stands, refusal, orders, verdict, ruling, moved, counted, asked, acted, changed, enters, adds}
+use Rattle.rules.specs.Rules.{limits, blocks, inRange, timely, stands, refusal, isDue, onReset, orders, verdict, ruling, moved, counted, asked, acted, changed, enters, adds}
 use Rattle.rules.proofs.Checks.{and-left}
 use Rattle.permits.specs.Permits.{fullFor}
 use Rattle.buffer.specs.Places.{DUE}
@@ -36,16 +35,16 @@ and-true false = refl
 
 module _ (b : List ℕ) (t : ℕ) {due : ℕ} (d : due ≡ getD b DUE 0) where
   pub none-due : due ≡ 0 → false ≡ orders (view b) t
-  unfolding orders factsOf
+  unfolding orders isDue factsOf
   none-due z = rw (sym d ∙ z)
 
   pub too-early : t < due → false ≡ orders (view b) t
-  unfolding orders factsOf
-  too-early h = go (ltb 0 (getD b DUE 0)) (lt-leb (getD b DUE 0) t (omega arith)) _
+  unfolding orders isDue factsOf
+  too-early h = go (ltb 0 (getD b DUE 0)) (lt-leb (getD b DUE 0) t (omega arith)) _ _
     where
-      go : (x : Bool) {y : Bool} → y ≡ false → (z : Bool) → false ≡ ((x && y) && z)
-      go true e z = rw e
-      go false e z = refl
+      go : (x : Bool) {y : Bool} → y ≡ false → (z u : Bool) → false ≡ (((x && y) && z) && u)
+      go true e z u = rw e
+      go false e z u = refl
 
   -- it is due
   module _ (set : due ≢ 0) (late : t < due → ⊥) (r : Row) (h : RowOf (limitAt (factsOf b) 5 0) r) where
@@ -53,8 +52,8 @@ module _ (b : List ℕ) (t : ℕ) {due : ℕ} (d : due ≡ getD b DUE 0) where
     unfolding limits
     rpm = h .applies ∙ and-true _
 
-    by-limits : orders (view b) t ≡ (r .applies && not (blocks (view b) t (limit 11 true (factsOf b .opening .N1) reset)))
-    unfolding orders factsOf
+    by-limits : orders (view b) t ≡ (r .applies && not (blocks (view b) t (onReset (factsOf b))))
+    unfolding orders isDue factsOf
     by-limits = rw (lt-ltb 0 (getD b DUE 0) (omega arith), le-leb (getD b DUE 0) t (omega arith), rpm)
 
     pub rpm-off : not (r .applies) ≡ true → false ≡ orders (view b) t
@@ -62,8 +61,8 @@ module _ (b : List ℕ) (t : ℕ) {due : ℕ} (d : due ≡ getD b DUE 0) where
 
     module _ (on : not (r .applies) ≡ false) (g : good b ≡ true) (past : factsOf b .last ≤ t) (m : ℕ)
         (e : m ≡ cond (r .applies && ltb 0 (r .most)) (fullFor t (r .most) (row b (r .list))) 0) where
-      same : limitAt (factsOf b) 5 0 ≡ limit 11 true (factsOf b .opening .N1) reset
-      unfolding limits
+      same : limitAt (factsOf b) 5 0 ≡ onReset (factsOf b)
+      unfolding limits onReset
       same = rw (sym rpm ∙ not-false (r .applies) on)
 
       pub by-N1 : eqb m 0 ≡ orders (view b) t
