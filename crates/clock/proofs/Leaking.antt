@@ -14,7 +14,7 @@ use Rattle.buffer.specs.Good.{good, rates}
 use Rattle.buffer.proofs.Goodness.{at-most}
 use Rattle.buffer.proofs.Sane.{good-sane}
 use Rattle.buffer.proofs.Laid.{Laid, laid-good, laid-as, laid-last, laid-counter, counter-at}
-use Rattle.clock.specs.Clock.{dueOf, drained, leaked}
+use Rattle.clock.specs.Clock.{passedOf, drained, leaked}
 
 -- the leak rates of a good buffer are bytes
 pub rate-low : (b : List ℕ) → good b ≡ true → (i : ℕ) → i < 3 → getD b (RATES + i) 0 ≤ 255
@@ -61,7 +61,7 @@ leak-laid {b} {f} {rs} l g1 g2 g3 =
     subst (λ (x : List ℕ). Laid (leaked b g1 g2 g3) (withCounters f x) rs) (all-six (f .counters) g1 g2 g3 (l .shaped .counters))
     (drain-laid (drain-laid (drain-laid (drain-laid (drain-laid (drain-laid l 0 g1 (lit< tt)) 1 g2 (lit< tt)) 2 g3 (lit< tt)) 3 g3 (lit< tt)) 4 g3 (lit< tt)) 5 g3 (lit< tt))
 
-pub clock-laid : (b : List ℕ) → good b ≡ true → (t : ℕ) (x : List ℕ) → x ≡ set (leaked b (dueOf b 0 t) (dueOf b 1 t) (dueOf b 2 t)) LAST t
+pub clock-laid : (b : List ℕ) → good b ≡ true → (t : ℕ) (x : List ℕ) → x ≡ set (leaked b (passedOf b 0 t) (passedOf b 1 t) (passedOf b 2 t)) LAST t
     → Laid x (moved t (factsOf b)) (rows (view b .lists))
 unfolding moved points factsOf
 clock-laid b g t x e = laid-as (laid-last (leak-laid (laid-good b g) _ _ _) t) e

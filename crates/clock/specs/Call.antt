@@ -1,5 +1,5 @@
--- What every timed call, and every AT line, promises of the buffer that it is lent: the answer and all 1,330 places, whatever the buffer
--- holds. Assumes nothing.
+-- What every timed call, and every AT line, promises of the buffer that it is lent: the answer and
+-- all 1,331 places, whatever the buffer holds. Assumes nothing.
 use mathlib.Core.Path.{_≡_}
 use mathlib.Core.Bool.{cond, not, _&&_}
 use mathlib.Core.List.{List}

@@ -9,8 +9,8 @@ abbrev pub gone : (rate opened last t : ℕ) → ℕ
 gone rate opened last t = (t - opened) / (rate * 3600) - (last - opened) / (rate * 3600)
 
 -- those of leak rate i, by the places
-abbrev pub dueOf : List ℕ → ℕ → ℕ → ℕ
-dueOf b i t = gone (getD b (RATES + i) 0) (getD b OPENED 0) (getD b LAST 0) t
+abbrev pub passedOf : List ℕ → ℕ → ℕ → ℕ
+passedOf b i t = gone (getD b (RATES + i) 0) (getD b OPENED 0) (getD b LAST 0) t
 
 -- counter i after g points
 abbrev pub drained : List ℕ → ℕ → ℕ → List ℕ

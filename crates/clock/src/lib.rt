@@ -11,7 +11,7 @@ ghost use Rattle.rules.specs.Rules.{check, moved};
 ghost use Rattle.buffer.specs.Places.{SIZE, LAST};
 ghost use Rattle.buffer.specs.Layout.{spread, rows, factsOf, view};
 ghost use Rattle.buffer.specs.Good.{good};
-ghost use Rattle.clock.specs.Clock.{gone, dueOf, drained, leaked};
+ghost use Rattle.clock.specs.Clock.{gone, passedOf, drained, leaked};
 
 // a less b, and 0 where b is more.
 pub fn less(a: u32, b: u32) -> u32
@@ -42,12 +42,12 @@ fn gone(rate: u32, opened: u32, last: u32, t: u32) -> u32
     )
 }
 
-// The points of leak rate i that are due when the clock goes to t.
-fn due(s: &[u32], i: usize, t: u32) -> u32
+// The points of leak rate i that are passed when the clock goes to t.
+fn passed(s: &[u32], i: usize, t: u32) -> u32
     requires { ⌜ length (now s) ≡ SIZE ⌝ }
     requires { ⌜ good (now s) ≡ true ⌝ }
     requires { ⌜ i < 3 ⌝ }
-    ensures { λ r. ⌜ r ≡ dueOf (now (s .entry)) i t ⌝ }
+    ensures { λ r. ⌜ r ≡ passedOf (now (s .entry)) i t ⌝ }
 {
     gone(fields::rate(s, i), fields::opened(s), fields::last(s), t)
 }
@@ -81,9 +81,9 @@ pub fn advance(s: &mut [u32], t: u32)
     requires { ⌜ good (now s) ≡ true ⌝ }
     ensures { λ _. ⌜ now (s .exit) ≡ spread (moved t (factsOf (now (s .entry)))) (rows (view (now (s .entry)) .lists)) ⌝ }
 {
-    let g1 = due(s, 0, t);
-    let g2 = due(s, 1, t);
-    let g3 = due(s, 2, t);
+    let g1 = passed(s, 0, t);
+    let g2 = passed(s, 1, t);
+    let g3 = passed(s, 2, t);
     leak(s, g1, g2, g3);
     fields::set_last(s, t);
 }

@@ -1,6 +1,6 @@
 -- Document 01's figures for the classroom, with the waits of request 3 and the seconds of request
 -- 4, and neighbours of theirs, so that every answer but 1 stands in one: how the buffer is opened,
--- what is called, and what must be seen, over the calls' own definitions on the 1,330 places and
+-- what is called, and what must be seen, over the calls' own definitions on the 1,331 places and
 -- over the record. Assumes nothing.
 use Prim.Native.Nat.{ℕ}
 use mathlib.Core.List.{List, [], _∷_, _++_}
@@ -27,7 +27,7 @@ pub record Seen : Type 0 where
   pub given : List Answer
   pub pdp1 : ℕ
 
--- ---- On the buffer: 1,330 places of 0 are opened, each call is made, and at the end the counter file is written
+-- ---- On the buffer: 1,331 places of 0 are opened, each call is made, and at the end the counter file is written
 
 abbrev pub answersOn : List ℕ → List Call → List Answer
 answersOn b [] = []

@@ -1,4 +1,5 @@
--- What answering a trace line promises: the bytes that it prints and all 1,330 places, whatever the line and the buffer hold. Assumes nothing.
+-- What answering a trace line promises: the bytes that it prints and all 1,331 places, whatever the
+-- line and the buffer hold. Assumes nothing.
 use mathlib.Core.Path.{_≡_}
 use mathlib.Core.Bool.{cond, _&&_}
 use mathlib.Core.List.{List, [], _∷_}

@@ -1,4 +1,4 @@
--- What opening promises: its answer and all 1,330 places, whatever it is given. Assumes nothing.
+-- What opening promises: its answer and all 1,331 places, whatever it is given. Assumes nothing.
 use mathlib.Core.Path.{_≡_}
 use mathlib.Core.Bool.{Bool, true, cond, _&&_}
 use mathlib.Core.List.{List}

@@ -273,3 +273,12 @@ accepted {old} {b} {x} {r} s z = go (turns old b) refl (ap (λ (a : Answer). a .
     go : (y : Bool) → turns old b ≡ y → _≡_ {A = ℕ} (cond y 0 1) 0 → x ≡ cond y (turned old) b → (good1 old ≡ true) × (x ≡ turned old)
     go true e n l = (and-left (good1 old) _ e, l)
     go false e n l = absurd (omega arith)
+
+-- and a call that is refused, with room for the new one, was given no good buffer of version 1
+pub refused-old : {old b x : List ℕ} {r : Answer} → TurnSays old b r x → length b ≡ SIZE → r .number ≢ 0 → good1 old ≡ false
+unfolding turns
+refused-old {old} {b} {x} {r} s long n = go (good1 old) refl
+  where
+    go : (y : Bool) → good1 old ≡ y → y ≡ false
+    go true e = absurd (n (ap (λ (a : Answer). a .number) (s .answered) ∙ rw (e, eq-eqb (length b) SIZE long)))
+    go false e = refl

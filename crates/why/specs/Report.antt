@@ -27,7 +27,7 @@ linesFor m (n ∷ ns) ts = lineIf (eqb (m % 2) 1) n (getD ts 0 0) ++ linesFor (m
 unfoldable pub report : Why → List ℕ
 report r = cond (eqb (r .refusal) 0) (printTwo (r .first) (r .count) ++ linesFor (r .bits) rules (r .times)) (printTwo (r .refusal) 0)
 
--- 5,320 bytes are 1,330 numbers; a file of another length is refusal 1
+-- 5,324 bytes are 1,331 numbers; a file of another length is refusal 1
 unfoldable pub reportOn : List ℕ → ℕ → ℕ → List ℕ
 reportOn bytes t q = cond (eqb (length bytes) BYTES) (report (whyOf (numbersOf bytes) t q)) (report (refusedBy 1))
 

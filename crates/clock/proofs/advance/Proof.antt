@@ -9,14 +9,14 @@ use borrow.Author.Needs.{needs}
 use Rattle.clock.proofs.advance.Statement.{statement}
 use Rattle.clock.proofs.advance.Tie as tie
 
-due-requires : tie.Need-due-requires
-due-requires c κs = search needs
+passed-requires : tie.Need-passed-requires
+passed-requires c κs = search needs
 
-due-requires-2 : tie.Need-due-requires-2
-due-requires-2 c κs = search needs
+passed-requires-2 : tie.Need-passed-requires-2
+passed-requires-2 c κs = search needs
 
-due-requires-3 : tie.Need-due-requires-3
-due-requires-3 c κs = search needs
+passed-requires-3 : tie.Need-passed-requires-3
+passed-requires-3 c κs = search needs
 
 leak-requires : tie.Need-leak-requires
 leak-requires c κs = search needs
@@ -31,9 +31,9 @@ returns : tie.Need-returns
 returns c =
     let x = c .before .before .before .before .before .before .before .before .before .before .before .before .before .before .before in
     let b : List ℕ = x .args .s .now in
-    let e1 = c .before .before .before .before .before .before .before .before .before .before .before .before .due .ensures in
-    let e2 = c .before .before .before .before .before .before .before .before .before .before .due2 .ensures in
-    let e3 = c .before .before .before .before .before .before .before .before .due3 .ensures in
+    let e1 = c .before .before .before .before .before .before .before .before .before .before .before .before .passed .ensures in
+    let e2 = c .before .before .before .before .before .before .before .before .before .before .passed2 .ensures in
+    let e3 = c .before .before .before .before .before .before .before .before .passed3 .ensures in
     let y = c .before .before .before .before .before .before .leak .ensures ∙ (λ j. leaked b (e1 j) (e2 j) (e3 j)) in
     clock-laid b (x .pre .1) (x .args .t) _ (c .before .before .set-last .ensures ∙ (λ i. set (y i) 3 (x .args .t))) .is
 
@@ -41,9 +41,9 @@ pub advance-spec : {M : Type 1} → statement M
 advance-spec =
     tie.close
     (tie.spec
-    due-requires
-    due-requires-2
-    due-requires-3
+    passed-requires
+    passed-requires-2
+    passed-requires-3
     leak-requires
     set-last-requires
     same-length

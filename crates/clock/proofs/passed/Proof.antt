@@ -1,8 +1,8 @@
--- `clock::due` meets its contract. Assumes nothing.
+-- `clock::passed` meets its contract. Assumes nothing.
 use Rattle.clock.proofs.Leaking.{rate-low}
 use borrow.Author.Needs.{needs}
-use Rattle.clock.proofs.due.Statement.{statement}
-use Rattle.clock.proofs.due.Tie as tie
+use Rattle.clock.proofs.passed.Statement.{statement}
+use Rattle.clock.proofs.passed.Tie as tie
 
 rate-requires : tie.Need-rate-requires
 rate-requires c κs = search needs
@@ -19,5 +19,5 @@ gone-requires c κs = let x = c .before .before .before .before in rw (c .before
 returns : tie.Need-returns
 returns c = cc
 
-pub due-spec : {M : Type 1} → statement M
-due-spec = tie.close (tie.spec rate-requires opened-requires last-requires gone-requires returns)
+pub passed-spec : {M : Type 1} → statement M
+passed-spec = tie.close (tie.spec rate-requires opened-requires last-requires gone-requires returns)
