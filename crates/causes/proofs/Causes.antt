@@ -63,27 +63,6 @@ entry-low re-establish = omega arith
 
 -- ---- The numbers of actions
 
--- none is below 20
-number-low : (x : Action) (second : ℕ) → 20 ≤ numberOf x second
-number-low back-off second = omega arith
-number-low both-back-off second = omega arith
-number-low re-attach second = omega arith
-number-low other-network second = go (eqb second 1)
-  where
-    go : (b : Bool) → 20 ≤ cond b 22 20
-    go true = omega arith
-    go false = omega arith
-number-low as-3GPP second = omega arith
-number-low not-same-PLMN second = omega arith
-number-low not-same-area second = omega arith
-number-low not-same-cell second = omega arith
-number-low reactivate second = omega arith
-number-low re-establish second = omega arith
-
-pub action-low : (column cause second : ℕ) → 20 ≤ action column cause second
-unfolding action
-action-low column cause second = number-low (printed column cause .action) second
-
 -- where both registrations back off it is 20
 number-both : (x : Action) (second : ℕ) → ofBoth x ≡ true → numberOf x second ≡ 20
 number-both back-off second e = refl

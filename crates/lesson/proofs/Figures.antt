@@ -10,7 +10,7 @@ use Rattle.mixing.specs.Mixing.{mixed}
 use Rattle.rules.specs.declared.Answer.{Answer}
 use Rattle.rules.specs.Calls.{C-PDP-1, Call}
 use Rattle.rules.specs.Causes.{printed, action, both}
-use Rattle.rules.specs.Tables.{within, moodOn, waitFor, permanent, ascending, ofSix}
+use Rattle.rules.specs.Tables.{within, moodOn, waitFor, permanent, delayFor, ascending, ofSix}
 use Rattle.rules.specs.Record.{counter}
 use Rattle.rules.specs.Rules.{limits, blocks, inRange, stands, refusal, runs, wait, failed, isDue, onReset, orders, verdict, ruling, points, moved, counted, asked, onGranted, onFailed, onOutcome, dueOn, acted, switched, obeyed, changed, enters, adds, learn, known, answers, short, step, held, heldAnswers}
 use Rattle.rules.specs.State.{State, fresh}
@@ -49,7 +49,7 @@ seen-ran c i =
     record { given = sym (answers-told g h (c .calls)) i; pdp1 = sym (as-told g h (c .calls) .counters C-PDP-1) i }
 
 computed : map ran cases ≡ expected
-unfolding mixed begun part bothGood goodOrAbsent absent file blank rulingFile within printed action both moodOn waitFor limits blocks inRange stands refusal runs wait failed isDue onReset orders verdict ruling points moved counted asked onGranted onFailed onOutcome permanent dueOn acted switched obeyed changed enters adds learn fresh
+unfolding mixed begun part bothGood goodOrAbsent absent file blank rulingFile within printed action both moodOn waitFor limits blocks inRange stands refusal runs wait failed isDue onReset orders verdict ruling points moved counted asked onGranted onFailed onOutcome permanent delayFor dueOn acted switched obeyed changed enters adds learn fresh
 computed = refl
 
 pub figures-over-the-record : map seenOverRecord cases ≡ expected

@@ -115,6 +115,9 @@ cases =
     -- C2's: re-attach; another network, and the same cause without one, the first failure
     ∷ case plain
     (timed 1000 (ask 2) ∷ timed 1010 (outcome 2 (rejected 28 0 2)) ∷ timed 1011 (ask 2) ∷ timed 1012 (outcome 2 (rejected 34 1 2)) ∷ timed 1013 (ask 2) ∷ timed 1014 (outcome 2 (rejected 34 0 2)) ∷ [])
+    -- the timed reset, T1 and N1 1: a second early, at the due time, once more; then N1 counts it
+    ∷ case (from 0 1 (1 ∷ 1 ∷ 0 ∷ 0 ∷ 0 ∷ 0 ∷ []) 0 0 0 0)
+    (timed 0 (ask 0) ∷ timed 1 (outcome 0 (rejected 2 0 0)) ∷ timed 331 tick ∷ timed 332 tick ∷ timed 332 tick ∷ timed 333 (ask 5) ∷ [])
     -- the checks, and the read
     ∷ case plain (timed 5 tick ∷ timed 6 (ask 6) ∷ timed 4 (ask 0) ∷ timed 5 (ask 4) ∷ typed query ∷ typed bad ∷ [])
     ∷ []
@@ -141,5 +144,6 @@ expected =
     ∷ sight (ok ∷ answer 23 0 ∷ answer 15 3598 ∷ []) 0
     ∷ sight (ok ∷ ok ∷ answer 17 3598 ∷ []) 0
     ∷ sight (ok ∷ answer 21 0 ∷ ok ∷ answer 22 0 ∷ ok ∷ answer 20 103 ∷ []) 0
+    ∷ sight (ok ∷ answer 20 103 ∷ ok ∷ answer 12 0 ∷ ok ∷ answer 11 3599 ∷ []) 0
     ∷ sight (ok ∷ answer 2 0 ∷ answer 3 0 ∷ answer 4 0 ∷ answer 0 15 ∷ answer 5 0 ∷ []) 0
     ∷ []

@@ -17,7 +17,7 @@ use Rattle.rules.specs.Tables.{highestTime, Kind, refusals, moodOn, oneMore, fo
 use Rattle.rules.specs.Rules.{check, inRange, timely, stands, refusal, wait, failed, verdict, refused, moved, onGranted, onFailed, onOutcome, dueOn, acted, changed, enters, adds}
 use Rattle.rules.specs.State.{Facts, Services, withServices, withDue}
 use Rattle.rules.proofs.Among.{not-among}
-use Rattle.rules.proofs.Checks.{in-range, in-time}
+use Rattle.rules.proofs.Checks.{in-range, in-time, action-low}
 use Rattle.buffer.specs.Places.{STANDING, MOOD, DUE}
 use Rattle.buffer.specs.Layout.{spread, rows, factsOf, view}
 use Rattle.buffer.specs.Good.{good}
@@ -26,7 +26,6 @@ use Rattle.buffer.proofs.Laid.{Laid, laid-good, laid-as, laid-standing, laid-mo
 use Rattle.clock.specs.Call.{Says}
 use Rattle.clock.proofs.Saying.{says-good, rules-on, moves}
 use Rattle.clock.proofs.Leaking.{laid-moved}
-use Rattle.causes.proofs.Causes.{action-low}
 use Rattle.backoff.specs.Backoffs.{clear, stored, backed}
 use Rattle.backoff.proofs.Backoffs.{laid-stored, laid-backed}
 use Rattle.outcome.specs.Outcome.{rested, checked, clocked, served}

@@ -9,7 +9,7 @@ use borrow.Author.Tests.{leb-true, le-leb, eqb-false, eqb-true}
 use native.Mathlib.Omega.{arith}
 use Rattle.rules.specs.declared.Answer.{Answer}
 use Rattle.rules.specs.Calls.{Outcome, Event, ask, outcome, dropped, tick, granted, silent, rejected, nfm, nfm-start, intervals, query, bad, Call, timed, typed, answer}
-use Rattle.rules.specs.Causes.{action}
+use Rattle.rules.specs.Causes.{Action, back-off, both-back-off, re-attach, other-network, as-3GPP, not-same-PLMN, not-same-area, not-same-cell, reactivate, re-establish, printed, numberOf, action}
 use Rattle.rules.specs.Tables.{highestTime, Kind, among, refusals, scheduled}
 use Rattle.rules.specs.Rules.{check, inRange, timely, stands, refusal, wait, failed, verdict, ruling, refused, changed, enters, adds, learn}
 use Rattle.rules.specs.State.{State, Facts}
@@ -164,3 +164,26 @@ outcome-backs w t s granted z = rw (passed-verdict w (timed t (outcome s granted
 outcome-backs w t s silent z = rw (passed-verdict w (timed t (outcome s silent)) z) (failed-backs (w .facts) s 20)
 outcome-backs w t s (rejected cause second column) z =
     rw (passed-verdict w (timed t (outcome s (rejected cause second column))) z) (failed-backs (w .facts) s (action column cause second))
+
+-- ---- The numbers of actions
+
+-- none is below 20
+number-low : (x : Action) (second : ℕ) → 20 ≤ numberOf x second
+number-low back-off second = omega arith
+number-low both-back-off second = omega arith
+number-low re-attach second = omega arith
+number-low other-network second = go (eqb second 1)
+  where
+    go : (b : Bool) → 20 ≤ cond b 22 20
+    go true = omega arith
+    go false = omega arith
+number-low as-3GPP second = omega arith
+number-low not-same-PLMN second = omega arith
+number-low not-same-area second = omega arith
+number-low not-same-cell second = omega arith
+number-low reactivate second = omega arith
+number-low re-establish second = omega arith
+
+pub action-low : (column cause second : ℕ) → 20 ≤ action column cause second
+unfolding action
+action-low column cause second = number-low (printed column cause .action) second

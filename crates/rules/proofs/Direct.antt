@@ -10,12 +10,12 @@ use borrow.Author.Tests.{ltb-true, ltb-false, lt-ltb, eqb-true, eq-eqb, ne-eqb}
 use native.Mathlib.Omega.{arith}
 use Rattle.rules.specs.declared.Answer.{Answer}
 use Rattle.rules.specs.Calls.{Opening, Outcome, Event, ask, outcome, granted, silent, rejected, dropped, tick, Call, timed, typed, Entry, entry, answer}
-use Rattle.rules.specs.Causes.{Action, back-off as backing, both-back-off, re-attach, other-network, as-3GPP, not-same-PLMN, not-same-area, not-same-cell, reactivate, re-establish, numberOf, printed, action}
+use Rattle.rules.specs.Causes.{action}
 use Rattle.rules.specs.Tables.{inHour, fromNewest, freeIn, Kind, goes, among, limiting, permanent, delayFor}
 use Rattle.rules.specs.State.{State}
 use Rattle.rules.specs.Record.{lastTime, permits, standing, startsT1, dueNow}
 use Rattle.rules.specs.Direct.{Accepted, Limited, N1, F1, F2, F3, F4, A1, S1, Over, WithinLimits, Free, nextWait, BacksOff, backs-off, RunsT1, runs, Due, Orders, orders, Sends, by-permit, by-order, Given, permitted, on-grant, on-drop, on-tick, on-line, out-of-range, out-of-time, wrong-standing, not-as-above, held, blocked, ordered, backed-off, in-its-place, other-action, Breaks, back-off, limit, Direct}
-use Rattle.rules.proofs.Checks.{and-left, and-right}
+use Rattle.rules.proofs.Checks.{and-left, and-right, action-low}
 use Rattle.rules.proofs.Newest.{rising-more}
 use Rattle.rules.proofs.Hour.{rising-at}
 use Rattle.rules.proofs.Limited.{either}
@@ -181,26 +181,6 @@ module _ (g : State) (past : List Entry) where
 
   -- ---- What a clock call's answer tells
 
-  number-high : (x : Action) (second : ℕ) → 20 ≤ numberOf x second
-  number-high backing second = omega arith
-  number-high both-back-off second = omega arith
-  number-high re-attach second = omega arith
-  number-high other-network second = go (eqb second 1)
-    where
-      go : (b : Bool) → 20 ≤ cond b 22 20
-      go true = omega arith
-      go false = omega arith
-  number-high as-3GPP second = omega arith
-  number-high not-same-PLMN second = omega arith
-  number-high not-same-area second = omega arith
-  number-high not-same-cell second = omega arith
-  number-high reactivate second = omega arith
-  number-high re-establish second = omega arith
-
-  action-high : (column cause second : ℕ) → 20 ≤ action column cause second
-  unfolding action
-  action-high column cause second = number-high (printed column cause .action) second
-
   -- 12 is no limit's number
   limit-not-12 : {q n L : ℕ} {k : Kind} → Limited g past q n L k → n ≢ 12
   limit-not-12 (N1 p e) h = omega arith
@@ -226,7 +206,7 @@ module _ (g : State) (past : List Entry) where
   twelve (ordered x d) e = orders x d
   twelve (backed-off x f n) e = absurd (omega arith)
   twelve (in-its-place x f n) e = absurd (omega arith)
-  twelve (other-action {cause = cause} {second = second} {column = column} x f) e = absurd (omega (arith, action-high column cause second))
+  twelve (other-action {cause = cause} {second = second} {column = column} x f) e = absurd (omega (arith, action-low column cause second))
 
   reset-now : {c : Call} {a : Answer} → Given g past c a → Orders g past c → a ≡ answer 12 0
   reset-now (on-tick x h) (orders y d) = absurd (h d)
