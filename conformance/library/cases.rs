@@ -1,5 +1,5 @@
-//! The test cases of CLP.09 that need more than a trace shows, on the linked library: a card without
-//! RPM files, (U)SIM-RPM04; RPM switched off; the counters. It ends in failure at the first
+//! The test cases of CLP.09 that need more than a trace shows, on the linked library: a card
+//! without RPM files, (U)SIM-RPM04; RPM switched off; the counters. It ends in failure at the first
 //! difference. docs/CONFORMANCE.md says what the cases show.
 mod module;
 
@@ -34,7 +34,8 @@ fn limits(n1: u32) -> [(u32, &'static [&'static str], u32, u32); 5] {
     ]
 }
 
-/// A limit's answer at this time, while the permit at 0 is the one that has to leave the hour: its number, and the seconds until then.
+/// A limit's answer at this time, while the permit at 0 is the one that has to leave the hour: its
+/// number, and the seconds until then.
 fn blocked(number: u32, time: u32) -> String {
     format!("{number} {}", 3600 - time)
 }
@@ -65,8 +66,8 @@ fn by_the_flag(module: &mut Module, n1: u32, t1: u32, delay: u32) -> Checked {
 }
 
 /// TC-RPG1. 1: power on. 2: read the RPM parameters. Exit 1: they match RTC10.
-/// No AT line reads them: the places of the state are read. And they rule: N1, F2 and F4, each until
-/// its first permit leaves the hour, and T1.
+/// No AT line reads them: the places of the state are read. And they rule: N1, F2 and F4, each
+/// until its first permit leaves the hour, and T1.
 fn rpg1(module: &mut Module) -> Checked {
     let [n1, t1, .., f4] = RTC10;
     module.expect(&opening(n1, t1, f4), "0 0")?;
@@ -82,8 +83,8 @@ fn rpg1(module: &mut Module) -> Checked {
     same("T1", after_mm_2(module, n1, t1)?, vec![1 + 3717])
 }
 
-/// TC-RPG3. 1: power on. 2: read the RPM flag. Exit 1: RPM is enabled or disabled by the default of the flag that is saved on the device.
-/// RTC10 prints no value for it: both are tried.
+/// TC-RPG3. 1: power on. 2: read the RPM flag. Exit 1: RPM is enabled or disabled by the default of
+/// the flag that is saved on the device. RTC10 prints no value for it: both are tried.
 fn rpg3(module: &mut Module) -> Checked {
     by_the_flag(module, RTC10[0], RTC10[1], 3717)
 }
@@ -147,9 +148,10 @@ macro_rules! trace {
     };
 }
 
-/// TC-RSM5. 1: power on, register. 2, 3: activate PDP, rejected with SM 26. 4: 2 x F3 more in an hour, rejected too.
-/// Exit 1: at least 0.05 x F3 sent in 15 minutes. Exit 2: fewer than F3 in an hour. Both are in the answers, with NFM on.
-/// Exit 3: C-PDP-3 rises with each one ignored. Under RTC10's values it is F4 that ignores, and C-PDP-4 that rises.
+/// TC-RSM5. 1: power on, register. 2, 3: activate PDP, rejected with SM 26. 4: 2 x F3 more in an
+/// hour, rejected too. Exit 1: at least 0.05 x F3 sent in 15 minutes. Exit 2: fewer than F3 in an
+/// hour. Both are in the answers, with NFM on. Exit 3: C-PDP-3 rises with each one ignored. Under
+/// RTC10's values it is F4 that ignores, and C-PDP-4 that rises.
 fn rsm5(module: &mut Module) -> Checked {
     let mut rises = vec![[0; 6], [0, 0, 0, 0, 0, 90], [0, 0, 0, 0, 60, 0]];
     rises.extend([[0, 0, 0, 0, 1, 0]; 9]); // each cause of RSM5, with F3 = 1
@@ -157,7 +159,8 @@ fn rsm5(module: &mut Module) -> Checked {
 }
 
 /// TC-RSM8. 1: power on, register. 2, 3: activate and deactivate PDP, 2 x F4 times in an hour.
-/// Exit 1: at most F4 activations sent in the hour, which is in the answers. Exit 2: C-PDP-4 rises with each one ignored.
+/// Exit 1: at most F4 activations sent in the hour, which is in the answers. Exit 2: C-PDP-4 rises
+/// with each one ignored.
 fn rsm8(module: &mut Module) -> Checked {
     module.replay(trace!("TC-RSM8"), &[[0, 0, 0, 0, 0, 46], [0, 0, 0, 0, 0, 2]])
 }
@@ -261,7 +264,8 @@ fn all(cases: &[Case], cards: &[Card]) -> Checked {
 }
 
 fn main() -> ExitCode {
-    // an absent file may have no pointer, or that of an empty slice; the bytes beyond it would be refused
+    // an absent file may have no pointer, or that of an empty slice; the bytes beyond it would be
+    // refused
     let beyond = [255; 32];
     let without = [std::ptr::null(), beyond[..0].as_ptr()].map(Card::Without);
     // annex A leaves the counters open: from 254 each can rise once more

@@ -183,8 +183,8 @@ impl Module {
         lines.iter().try_for_each(|(line, answer)| self.expect(line, answer))
     }
 
-    /// Opens, with NFM off so that no back-off stands before a limit, and repeats the lines each second from 0 on. Gives back how often that
-    /// was permitted, and what was answered then.
+    /// Opens, with NFM off so that no back-off stands before a limit, and repeats the lines each
+    /// second from 0 on. Gives back how often that was permitted, and what was answered then.
     pub fn repeated(&mut self, opening: &str, lines: &[&str]) -> Checked<(u32, String)> {
         self.expect(opening, "0 0")?;
         self.expect("A AT+NFM=0", "0 4")?;

@@ -1,5 +1,5 @@
--- Document 01's table, and the due time at its end: the 1,331 numbers of a state, and the state that
--- 1,331 numbers hold. Assumes nothing.
+-- Document 01's table, and the due time at its end: the 1,331 numbers of a state, and the state
+-- that 1,331 numbers hold. Assumes nothing.
 use Prim.Native.Nat.{ℕ, _+_, _*_, _/_, _%_, _^_}
 use mathlib.Core.List.{List, [], _∷_, map}
 use lib.ListN.{length, getD}

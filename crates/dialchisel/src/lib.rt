@@ -53,8 +53,8 @@ pub extern "C" fn dialchisel_open<'a, 'b>(
 }
 
 // Turns a state of version 1, of 1,330 numbers, into one of this version: the record begins with
-// what it holds, and no reset is due. 1 where `old` is no good state of version 1, or `state` is not
-// 1,331 numbers.
+// what it holds, and no reset is due. 1 where `old` is no good state of version 1, or `state` is
+// not 1,331 numbers.
 #[no_mangle]
 pub extern "C" fn dialchisel_turn_1(old: &[u32], state: &mut [u32]) -> Answer
     ensures { λ r. ⌜ TurnSays (now (old .entry)) (now (state .entry)) r (now (state .exit)) ⌝ }

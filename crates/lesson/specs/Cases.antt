@@ -27,7 +27,8 @@ pub record Seen : Type 0 where
   pub given : List Answer
   pub pdp1 : ℕ
 
--- ---- On the buffer: 1,331 places of 0 are opened, each call is made, and at the end the counter file is written
+-- ---- On the buffer: 1,331 places of 0 are opened, each call is made, and at the end the counter
+-- file is written
 
 abbrev pub answersOn : List ℕ → List Call → List Answer
 answersOn b [] = []

@@ -14,7 +14,8 @@ use Rattle.buffer.proofs.Segments.{spelled, spell, paste-seg, width-set}
 use Rattle.buffer.proofs.Laying.{paste-whole, length-pad}
 use Rattle.opening.specs.Open.{Order, begun}
 
--- the parts as they are filled: places 0-9, intervals, parameters, house limits, rates, 31-43, counters, lengths, lists, due time
+-- the parts as they are filled: places 0-9, intervals, parameters, house limits, rates, 31-43,
+-- counters, lengths, lists, due time
 abbrev parts : List ℕ
 parts = 10 ∷ 10 ∷ 6 ∷ 2 ∷ 3 ∷ 13 ∷ 6 ∷ 5 ∷ 1275 ∷ 1 ∷ []
 

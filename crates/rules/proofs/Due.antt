@@ -1,5 +1,5 @@
--- The timed reset over the record: T1's window, that a due time stays until the module is reset, and
--- so that a gateway whose clock goes on does not sit dead after a permanent rejection. Assumes
+-- The timed reset over the record: T1's window, that a due time stays until the module is reset,
+-- and so that a gateway whose clock goes on does not sit dead after a permanent rejection. Assumes
 -- nothing.
 use Prim.Native.Nat.{ℕ, _+_, _*_, _%_, _≤_, _<_}
 use mathlib.Core.Path.{_≡_, refl, _∙_}

@@ -20,7 +20,8 @@ use Rattle.rules.proofs.Checks.{accepted, on-time, refused-adds, outcom
 use Rattle.rules.proofs.Groups.{of-four, of-six, four-cond, six-path, four-path, set-four, once-more, end-more, failures-cleared, asked-four, counted-six}
 use Rattle.rules.proofs.Leaks.{pointsTo, one-by-one}
 
--- facts by their parts, and a path between two that agree on what was settled, on the time, on the mood and on the due time
+-- facts by their parts, and a path between two that agree on what was settled, on the time, on the
+-- mood and on the due time
 abbrev factsOf : Opening → Mode → ℕ → (counters failures ends standing : List ℕ) → (mood due : ℕ) → Facts
 factsOf o m l c f e s d u =
     record { opening = o; mode = m; last = l; counters = c; services = record { failures = f; ends = e; standing = s; mood = d }; due = u }

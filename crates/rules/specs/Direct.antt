@@ -149,8 +149,8 @@ module _ (g : State) (past : List Entry) where
     runs : {t s cause second column : ℕ} → permanent column cause ≡ true → 0 < opening .T1 → opening .rpm ≡ 1
         → RunsT1 (timed t (outcome s (rejected cause second column)))
 
-  -- a reset may be ordered at t: "not before the due time", "N1, if it applies, is not full", "never
-  -- while RPM is 0"; a due time of 0 is none
+  -- a reset may be ordered at t: "not before the due time", "N1, if it applies, is not full",
+  -- "never while RPM is 0"; a due time of 0 is none
   pub record Due (t : ℕ) : Type 0 where
     pub set : dueNow g past ≢ 0
     pub not-before : dueNow g past ≤ t
@@ -209,12 +209,12 @@ module _ (g : State) (past : List Entry) where
     pub no-permit-in-back-off : (t q : ℕ) → next (timed t (ask q)) .number ≡ 0 → Free t q
     -- "resets are not held by one"
     pub resets-not-held : (t : ℕ) → next (timed t (ask 5)) .number ≢ 10
-    -- "A permit at t is added to: attach (0, 1), activation (2), PDP (2, 4), SMS (3), reset (5)", and
-    -- a reset that is ordered "enters the reset list"
+    -- "A permit at t is added to: attach (0, 1), activation (2), PDP (2, 4), SMS (3), reset (5)",
+    -- and a reset that is ordered "enters the reset list"
     pub listed-then : (t : ℕ) (c : Call) (q : ℕ) → Sends t c (next c .number) q → (k : Kind) → goes q k ≡ true
         → permits g k (entry c (next c) ∷ past) ≡ permits g k past ++ (t ∷ [])
-    -- "each permit has at most L on its list in the 3,600 seconds that end with it", itself counted,
-    -- and so does each reset that is ordered
+    -- "each permit has at most L on its list in the 3,600 seconds that end with it", itself
+    -- counted, and so does each reset that is ordered
     pub at-most : (t : ℕ) (c : Call) (q : ℕ) → Sends t c (next c .number) q → (n L : ℕ) (k : Kind) → Limited q n L k → 0 < L
         → inHour t (permits g k (entry c (next c) ∷ past)) ≤ L
     -- "a request that passes the checks is blocked only by a rule that its permit would break"

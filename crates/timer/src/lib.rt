@@ -1,5 +1,5 @@
-// The timed reset of CLP.03, as far as a rejection sets it: which rejections T1 waits from, and when
-// the reset is due then.
+// The timed reset of CLP.03, as far as a rejection sets it: which rejections T1 waits from, and
+// when the reset is due then.
 use buffer::fields;
 use buffer::places as at;
 ghost use mathlib.Core.Path.{_≡_};

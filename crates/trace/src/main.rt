@@ -1,9 +1,9 @@
 // The trace program: reads trace lines from standard input and writes the answer to each to standard output. Before any `O` the buffer is all 0.
 //
-// A line may stand across reads; the last one may lack its LF. What waits is written before the next
-// read, so that one who types lines sees the answers. The memory used does not grow with the input.
-// With `--state FILE` the buffer after the last line is written to FILE: 1,331 numbers of four
-// bytes, the lowest first.
+// A line may stand across reads; the last one may lack its LF. What waits is written before the
+// next read, so that one who types lines sees the answers. The memory used does not grow with the
+// input. With `--state FILE` the buffer after the last line is written to FILE: 1,331 numbers of
+// four bytes, the lowest first.
 use answering::Carry;
 use answering::Left;
 use buffer::places;

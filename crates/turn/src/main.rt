@@ -1,6 +1,7 @@
-// turn: turns a state of version 1 that was kept in a file. It reads that state from standard input,
-// 1,330 numbers of four bytes each, the lowest first, and writes the state of this version to
-// standard output, 1,331 numbers. Where it is no good state of version 1, nothing is written there.
+// turn: turns a state of version 1 that was kept in a file. It reads that state from standard
+// input, 1,330 numbers of four bytes each, the lowest first, and writes the state of this version
+// to standard output, 1,331 numbers. Where it is no good state of version 1, nothing is written
+// there.
 use buffer::places;
 use libc::STDERR_FILENO;
 use libc::STDIN_FILENO;

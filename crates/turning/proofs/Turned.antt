@@ -1,4 +1,5 @@
--- A buffer of version 1 is good exactly when the turned one is, and both hold the same. Assumes nothing.
+-- A buffer of version 1 is good exactly when the turned one is, and both hold the same. Assumes
+-- nothing.
 use mathlib.Core.Path.{_≡_, refl, sym, ap, _∙_}
 use mathlib.Core.Bool.{Bool, true, false, cond, not, _&&_}
 use mathlib.Core.List.{List, [], _∷_, _++_}

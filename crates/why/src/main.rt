@@ -1,7 +1,7 @@
-// why STATE TIME REQUEST: says why the gate would say no to a request at a time, from a state that is
-// kept in a file: 1,331 numbers of four bytes each, the lowest first. It prints the first rule that
-// stands and how many there are, then a line for each: the back-off's number, or a limit's with the
-// permit time that has to leave the hour. A refusal is its number and 0.
+// why STATE TIME REQUEST: says why the gate would say no to a request at a time, from a state that
+// is kept in a file: 1,331 numbers of four bytes each, the lowest first. It prints the first rule
+// that stands and how many there are, then a line for each: the back-off's number, or a limit's
+// with the permit time that has to leave the hour. A refusal is its number and 0.
 use buffer::places;
 use libc::STDERR_FILENO;
 use libc::STDOUT_FILENO;

@@ -1,4 +1,5 @@
--- `turning::copy` meets its contract: the places are copied, and two stores follow. Assumes nothing.
+-- `turning::copy` meets its contract: the places are copied, and two stores follow. Assumes
+-- nothing.
 use mathlib.Core.Path.{_≡_, refl, ap, _∙_}
 use mathlib.Core.List.{List, _++_}
 use Prim.Native.Nat.{ℕ, _≤_, _-_}
