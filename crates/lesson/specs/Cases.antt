@@ -1,7 +1,7 @@
 -- Document 01's figures for the classroom, with the waits of request 3 and the seconds of request
--- 4, and neighbours of theirs, so that every answer but 1 stands in one: how the buffer is opened,
--- what is called, and what must be seen, over the calls' own definitions on the 1,331 places and
--- over the record. Assumes nothing.
+-- 4, and neighbours of theirs, so that every answer up to 23 but 1 stands in one: how the buffer is
+-- opened, what is called, and what must be seen, over the calls' own definitions on the 1,331
+-- places and over the record. Assumes nothing.
 use Prim.Native.Nat.{ℕ}
 use mathlib.Core.List.{List, [], _∷_, _++_}
 use lib.ListN.{getD, replicate}
