@@ -1,7 +1,7 @@
 -- Whoever gives each number when its line says keeps the sentences of demand 3, over any record
 -- whose permits rise: they follow from the lines, without the rules. Assumes nothing.
-use Prim.Native.Nat.{ℕ, _+_, _≤_, _<_}
-use mathlib.Core.Path.{_≡_, refl, sym, _∙_}
+use Prim.Native.Nat.{ℕ, _+_, _-_, _≤_, _<_}
+use mathlib.Core.Path.{_≡_, refl, sym, ap, _∙_}
 use mathlib.Core.Bool.{Bool, true, false, cond, _&&_, false≢true}
 use mathlib.Core.List.{List, [], _∷_, _++_}
 use mathlib.Core.Logic.{inl, inr, _≢_}
@@ -9,11 +9,11 @@ use lib.Dec.{ltb, eqb}
 use borrow.Author.Tests.{ltb-true, ltb-false, lt-ltb, eqb-true, eq-eqb, ne-eqb}
 use native.Mathlib.Omega.{arith}
 use Rattle.rules.specs.declared.Answer.{Answer}
-use Rattle.rules.specs.Calls.{Opening, Outcome, Event, ask, outcome, granted, silent, rejected, dropped, tick, Call, timed, typed, Entry, entry, answer}
+use Rattle.rules.specs.Calls.{Opening, C-R-1, Outcome, Event, ask, outcome, granted, silent, rejected, dropped, tick, Call, timed, typed, Entry, entry, answer}
 use Rattle.rules.specs.Causes.{action}
-use Rattle.rules.specs.Tables.{inHour, fromNewest, freeIn, Kind, goes, among, limiting, permanent, delayFor}
+use Rattle.rules.specs.Tables.{inHour, fromNewest, freeIn, Kind, goes, among, limiting, oneMore, permanent, delayFor}
 use Rattle.rules.specs.State.{State}
-use Rattle.rules.specs.Record.{lastTime, permits, standing, startsT1, dueNow}
+use Rattle.rules.specs.Record.{lastTime, permits, standing, startsT1, dueNow, leaked, counter}
 use Rattle.rules.specs.Direct.{Accepted, Limited, N1, F1, F2, F3, F4, A1, S1, Over, WithinLimits, Free, nextWait, BacksOff, backs-off, RunsT1, runs, Due, Orders, orders, Sends, by-permit, by-order, Given, permitted, on-grant, on-drop, on-tick, on-line, out-of-range, out-of-time, wrong-standing, not-as-above, held, blocked, ordered, backed-off, in-its-place, other-action, Breaks, back-off, limit, Direct}
 use Rattle.rules.proofs.Checks.{and-left, and-right, action-low}
 use Rattle.rules.proofs.Newest.{rising-more}
@@ -217,6 +217,11 @@ module _ (g : State) (past : List Entry) where
 
   -- ---- What is known after an answer
 
+  one-more : (t : ℕ) (a : Answer) → a .number ≡ 12 → counter g C-R-1 (entry (timed t tick) a ∷ past)
+      ≡ oneMore (leaked (g .facts .opening .opened) (g .facts .opening .LR2) (lastTime g past) (t - lastTime g past) (counter g C-R-1 past))
+  unfolding counter
+  one-more t a e = rw e
+
   all-idle : {t m : ℕ} {c : Call} (a : Answer) → Sends t c m 5 → a .number ≡ m → (s : ℕ) → standing g s (entry c a ∷ past) ≡ 0
   unfolding standing
   all-idle a by-permit e s = rw e
@@ -295,6 +300,7 @@ module _ (g : State) (past : List Entry) where
     and-no-other = λ t s o x u r. stays-unreached g past t s o (next (timed t (outcome s o))) x u r;
     orders-then = λ c x. reset-now (lines c) x;
     orders-only-then = λ c e. twelve (lines c) e;
+    counted-then = λ t x. one-more t (next (timed t tick)) (ap (λ (a : Answer). a .number) (reset-now (lines (timed t tick)) x));
     all-idle-then = λ t c x. all-idle (next c) x refl;
     due-no-more = λ t c x. none-due (next c) x refl;
     else-stays = λ c h z. due-kept c (next c) h z;

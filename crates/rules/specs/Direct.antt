@@ -8,11 +8,11 @@ use mathlib.Core.Bool.{true, false}
 use mathlib.Core.List.{List, [], _∷_, _++_}
 use mathlib.Core.Logic.{_⊎_, _≢_}
 use Rattle.rules.specs.declared.Answer.{Answer}
-use Rattle.rules.specs.Calls.{Opening, Outcome, Event, ask, outcome, granted, silent, rejected, dropped, tick, Line, nfm, nfm-start, intervals, query, bad, Call, timed, typed, Entry, entry, answer}
+use Rattle.rules.specs.Calls.{Opening, C-R-1, Outcome, Event, ask, outcome, granted, silent, rejected, dropped, tick, Line, nfm, nfm-start, intervals, query, bad, Call, timed, typed, Entry, entry, answer}
 use Rattle.rules.specs.Causes.{action, both}
 use Rattle.rules.specs.Tables.{highestTime, inHour, freeIn, Kind, attach, activation, pdp, sms, reset, goes, among, limiting, rank, oneMore, waitFor, permanent, delayFor, scheduled}
 use Rattle.rules.specs.State.{State}
-use Rattle.rules.specs.Record.{lastTime, nfmNow, intervalsNow, permits, toBackOff, failures, backOffEnd, standing, mood, dueNow}
+use Rattle.rules.specs.Record.{lastTime, nfmNow, intervalsNow, permits, toBackOff, failures, backOffEnd, standing, mood, dueNow, leaked, counter}
 
 -- ---- What is in range, and well-formed
 
@@ -236,6 +236,10 @@ module _ (g : State) (past : List Entry) where
     -- a reset is ordered by the first clock call that may, and by nothing else
     pub orders-then : (c : Call) → Orders c → next c ≡ answer 12 0
     pub orders-only-then : (c : Call) → next c .number ≡ 12 → Orders c
+    -- it "adds one to C-R-1, at most 255", once what is due since the last time has leaked
+    pub counted-then : (t : ℕ) → Orders (timed t tick)
+        → counter g C-R-1 (entry (timed t tick) (next (timed t tick)) ∷ past)
+        ≡ oneMore (leaked (opening .opened) (opening .LR2) (lastTime g past) (t - lastTime g past) (counter g C-R-1 past))
     -- a reset, asked for or ordered, "makes all services idle [..] and ends the due time"
     pub all-idle-then : (t : ℕ) (c : Call) → Sends t c (next c .number) 5 → (s : ℕ) → standing g s (entry c (next c) ∷ past) ≡ 0
     pub due-no-more : (t : ℕ) (c : Call) → Sends t c (next c .number) 5 → dueNow g (entry c (next c) ∷ past) ≡ 0

@@ -202,13 +202,13 @@ leaked opened rate old (suc n) counter =
     let left = leaked opened rate old n counter in
     cond (leakPoint opened rate (old + suc n)) (left - 1) left
 
--- a request that was blocked by the limit of counter k, or a reset that was ordered
-abbrev pub blocksOn : Counter → Call → ℕ → Bool
-blocksOn k (timed t (ask q)) n = raises k n
-blocksOn k (timed t (outcome s o)) n = false
-blocksOn k (timed t dropped) n = false
-blocksOn k (timed t tick) n = raises k n
-blocksOn k (typed l) n = false
+-- what counter k counts: a request that its limit blocked, and C-R-1 a reset that was ordered
+abbrev pub countsOn : Counter → Call → ℕ → Bool
+countsOn k (timed t (ask q)) n = raises k n
+countsOn k (timed t (outcome s o)) n = false
+countsOn k (timed t dropped) n = false
+countsOn k (timed t tick) n = raises k n
+countsOn k (typed l) n = false
 
 -- counter k: the start's; a call leaks from the old time to its own, and then its own block or
 -- reset adds one, to 255 at most
@@ -217,4 +217,4 @@ counter g k [] = ofSix (g .facts .counters) k
 counter g k (x ∷ past) =
     let old = lastTime g past in
     let left = leaked (g .facts .opening .opened) (rateOf (g .facts .opening) k) old (timeOf (x .call) old - old) (counter g k past) in
-    cond (blocksOn k (x .call) (x .answer .number)) (oneMore left) left
+    cond (countsOn k (x .call) (x .answer .number)) (oneMore left) left

@@ -97,9 +97,9 @@ unfoldable pub permanent : (column cause : ℕ) → Bool
 permanent column cause =
     (eqb column 0 && among cause (2 ∷ 3 ∷ 6 ∷ [])) || (eqb column 1 && among cause (2 ∷ 3 ∷ 6 ∷ 7 ∷ 8 ∷ []))
 
--- how long after one the module is reset. T1 counts 6 minutes on average (8.3.2), in a window of a
--- tenth less to a tenth more (RTC1), both ends in it: 72 T1 + 1 seconds, of which the card draws
--- one
+-- how long after one the module is reset. T1 is the average, in units of 6 minutes (8.3.2), and the
+-- window is a tenth less to a tenth more (RTC1), both ends in it: 72 T1 + 1 seconds, of which the
+-- card draws one
 unfoldable pub delayFor : (imsi T1 : ℕ) → ℕ
 delayFor imsi T1 = 324 * T1 + drawn imsi 0 % (72 * T1 + 1)
 
