@@ -20,7 +20,8 @@ use Rattle.lines.specs.declared.Reply.{Reply}
 use Rattle.lines.specs.declared.Reply.the-variants as R
 use Rattle.rows.specs.declared.Span.{Span}
 use Rattle.lines.specs.declared.House.the-variants as H
-use Rattle.lines.specs.Trace.{Said, opens, calls, wrong, comma, cr, highest, highestByte, longest, howMany, eventOf, timedLine, typedLine, Ending, ending, no-ending, endingOf, opensBy, openLine, letterO, letterA, byLetter, readTrace, saidBy, highestImsi}
+use Rattle.calls.specs.Letters.{howMany, eventOf, letterA}
+use Rattle.lines.specs.Trace.{Said, opens, calls, wrong, comma, cr, highest, highestByte, longest, timedLine, typedLine, Ending, ending, no-ending, endingOf, opensBy, openLine, letterO, byLetter, readTrace, saidBy, highestImsi}
 use Rattle.rows.specs.Rows.{fields, ended, begins, space, field, ifNumber, ifNumbers, ifExactly}
 use Rattle.lines.specs.Held.{endingBy}
 use Rattle.rows.specs.Rows.{rowOf}

@@ -1,4 +1,3 @@
-pub mod Letters
 pub mod Filing
 pub mod Doing
 pub mod Staying

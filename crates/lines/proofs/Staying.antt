@@ -16,7 +16,8 @@ use Rattle.clock.proofs.Saying.{good-after}
 use Rattle.opening.specs.Open.{Order, Typed, openNumber, openAfter}
 use Rattle.opening.proofs.Opened.{opened-valid}
 use Rattle.text.proofs.Choice.{cond-by}
-use Rattle.lines.specs.Trace.{Said, opens, calls, wrong, comma, highest, highestByte, highestImsi, Ending, ending, no-ending, endingOf, opensBy, openLine, typedLine, timedLine, letterO, letterA, byLetter, readTrace, saidBy, longest, howMany}
+use Rattle.calls.specs.Letters.{letterA, howMany}
+use Rattle.lines.specs.Trace.{Said, opens, calls, wrong, comma, highest, highestByte, highestImsi, Ending, ending, no-ending, endingOf, opensBy, openLine, typedLine, timedLine, letterO, byLetter, readTrace, saidBy, longest}
 use Rattle.rows.specs.Rows.{Row, row, no-row, fields, ended, space, field, ifNumber, ifNumbers, ifExactly, begins}
 use Rattle.rows.specs.Rows.{UpTo}
 use Rattle.lines.specs.Line.{leftBy, roomFor, LineSays}

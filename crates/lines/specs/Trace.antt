@@ -5,12 +5,10 @@ use Prim.Native.Nat.{ℕ}
 use lib.Dec.{eqb, leb}
 use lib.ListN.{length, getD, drop, replicate}
 use Rattle.rules.specs.Calls.{Call, timed, typed}
-use Rattle.rules.specs.declared.Event.{Event}
-use Rattle.rules.specs.declared.Event.the-variants.{Ask as ask, Outcome as outcome, Dropped as dropped, Tick as tick}
-use Rattle.rules.specs.declared.Outcome.the-variants.{Granted as granted, Silent as silent, Rejected as rejected}
 use Rattle.buffer.specs.Segments.{pad}
 use Rattle.card.specs.Card.{rtc10}
 use Rattle.opening.specs.Open.{Order, order}
+use Rattle.calls.specs.Letters.{letterA, howMany, eventOf}
 use Rattle.rows.specs.Rows.{space, begins, ended, field, fields, ifNumber, ifNumbers, ifExactly}
 use Rattle.at.specs.Lines.{readLine}
 
@@ -18,27 +16,6 @@ use Rattle.at.specs.Lines.{readLine}
 
 abbrev pub letterO : ℕ
 letterO = 79
-
-abbrev pub letterQ : ℕ
-letterQ = 81
-
-abbrev pub letterG : ℕ
-letterG = 71
-
-abbrev pub letterS : ℕ
-letterS = 83
-
-abbrev pub letterJ : ℕ
-letterJ = 74
-
-abbrev pub letterD : ℕ
-letterD = 68
-
-abbrev pub letterT : ℕ
-letterT = 84
-
-abbrev pub letterA : ℕ
-letterA = 65
 
 abbrev pub comma : ℕ
 comma = 44
@@ -68,25 +45,6 @@ pub data Said : Type 0 where
   opens : Order → Said
   calls : Call → Said
   wrong : Said
-
--- how many numbers follow a letter, the time first; 0 for a letter that begins no timed line
-unfoldable pub howMany : ℕ → ℕ
-howMany x =
-    cond (eqb x letterQ) 2
-    (cond (eqb x letterG) 2
-    (cond (eqb x letterS) 2
-    (cond (eqb x letterJ) 5
-    (cond (eqb x letterD) 1
-    (cond (eqb x letterT) 1 0)))))
-
--- what happens, by the letter and the numbers after it
-unfoldable pub eventOf : ℕ → List ℕ → Event
-eventOf x n =
-    cond (eqb x letterQ) (ask (getD n 1 0))
-    (cond (eqb x letterG) (outcome (getD n 1 0) granted)
-    (cond (eqb x letterS) (outcome (getD n 1 0) silent)
-    (cond (eqb x letterJ) (outcome (getD n 1 0) (rejected (getD n 2 0) (getD n 3 0) (getD n 4 0)))
-    (cond (eqb x letterD) dropped tick))))
 
 -- Q, G, S, J, D, T: the time and up to four numbers more
 unfoldable pub timedLine : ℕ → List ℕ → Said

@@ -1,8 +1,6 @@
 // One trace line in, its answer out. `answer` takes any buffer; `answer_in` is for one that is known to be good, and does not check it. Both
 // promise the same.
 use rules::Answer;
-use rules::Event;
-use rules::Outcome;
 use text::Num;
 ghost use mathlib.Core.Path.{_≡_};
 ghost use mathlib.Core.Bool.{true};
@@ -14,7 +12,8 @@ ghost use Rattle.buffer.specs.Places.{SIZE};
 ghost use Rattle.buffer.specs.Segments.{paste};
 ghost use Rattle.buffer.specs.Good.{good};
 ghost use Rattle.clock.specs.Call.{Says};
-ghost use Rattle.lines.specs.Trace.{howMany, eventOf, timedLine, typedLine, endingOf, opensBy, openLine, saidBy};
+ghost use Rattle.calls.specs.Letters.{howMany, eventOf};
+ghost use Rattle.lines.specs.Trace.{timedLine, typedLine, endingOf, opensBy, openLine, saidBy};
 ghost use Rattle.lines.specs.Held.{endingBy};
 ghost use Rattle.rows.specs.Rows.{UpTo};
 ghost use Rattle.lines.specs.Line.{Done, printedTwo, printedWrong, LineSays};
@@ -129,54 +128,6 @@ fn open_line(s: &mut [u32], line: &[u8]) -> Reply
     open_with(s, line, read.next, time as u32, imsi, &intervals[..count])
 }
 
-// How many numbers follow a letter; 0 for one that begins no timed line.
-fn how_many(x: u8) -> usize
-    ensures { λ r. ⌜ r ≡ howMany x ⌝ }
-{
-    if x == b'Q' {
-        return 2;
-    }
-    if x == b'G' {
-        return 2;
-    }
-    if x == b'S' {
-        return 2;
-    }
-    if x == b'J' {
-        return 5;
-    }
-    if x == b'D' {
-        return 1;
-    }
-    if x == b'T' {
-        return 1;
-    }
-    0
-}
-
-// What happens, by the letter of a line and its numbers.
-fn event(x: u8, v: &[u32]) -> Event
-    requires { ⌜ length (now v) ≡ howMany x ⌝ }
-    ensures { λ r. ⌜ r ≡ eventOf x (now (v .entry)) ⌝ }
-{
-    if x == b'Q' {
-        return Event::Ask(v[1]);
-    }
-    if x == b'G' {
-        return Event::Outcome(v[1], Outcome::Granted);
-    }
-    if x == b'S' {
-        return Event::Outcome(v[1], Outcome::Silent);
-    }
-    if x == b'J' {
-        return Event::Outcome(v[1], Outcome::Rejected(v[2], v[3], v[4]));
-    }
-    if x == b'D' {
-        return Event::Dropped;
-    }
-    Event::Tick
-}
-
 // A timed call by its letter and its numbers, on a good buffer.
 fn happens(s: &mut [u32], x: u8, v: &[u32]) -> Answer
     requires { ⌜ length (now s) ≡ SIZE ⌝ }
@@ -184,7 +135,7 @@ fn happens(s: &mut [u32], x: u8, v: &[u32]) -> Answer
     requires { ⌜ (length (now v) ≡ howMany x) × (1 ≤ length (now v)) ⌝ }
     ensures { λ r. ⌜ Says (now (s .entry)) (timed (getD (now (v .entry)) 0 0) (eventOf x (now (v .entry)))) r (now (s .exit)) ⌝ }
 {
-    events::happen_in(s, v[0], event(x, v))
+    events::happen_in(s, v[0], calls::event(x, v))
 }
 
 // Q, G, S, J, D, T: a timed call. `ok` says whether the buffer is good.
@@ -198,7 +149,7 @@ fn timed_line(s: &mut [u32], line: &[u8], x: u8, ok: bool) -> Reply
     if count == 0 {
         return Reply::Wrong;
     }
-    if count != how_many(x) {
+    if count != calls::how_many(x) {
         return Reply::Wrong;
     }
     if read.next < line.len() {

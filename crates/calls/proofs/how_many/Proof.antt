@@ -1,10 +1,10 @@
--- `lines::how_many` meets its contract. Assumes nothing.
-use Rattle.lines.specs.Trace.{letterQ, letterG, letterS, letterJ, letterD, letterT, howMany}
-use Rattle.lines.proofs.Letters.{many-of, many-none}
+-- `calls::how_many` meets its contract. Assumes nothing.
+use Rattle.calls.specs.Letters.{letterQ, letterG, letterS, letterJ, letterD, letterT, howMany}
+use Rattle.calls.proofs.Letters.{many-of, many-none}
 use Prim.Native.Nat.{_-_}
 use mathlib.Core.Path.{refl, sym}
-use Rattle.lines.proofs.how_many.Statement.{statement}
-use Rattle.lines.proofs.how_many.Tie as tie
+use Rattle.calls.proofs.how_many.Statement.{statement}
+use Rattle.calls.proofs.how_many.Tie as tie
 
 returns : tie.Need-returns
 unfolding howMany

@@ -1,13 +1,13 @@
--- `lines::event` meets its contract, letter by letter. Assumes nothing.
+-- `calls::event` meets its contract, letter by letter. Assumes nothing.
 use mathlib.Core.Path.{refl, sym}
 use native.Mathlib.Omega.{arith}
 use lib.ListN.{getD}
 use Rattle.rules.specs.declared.Event.the-variants.{Ask as ask, Outcome as outcome, Dropped as dropped}
 use Rattle.rules.specs.declared.Outcome.the-variants.{Granted as granted, Silent as silent, Rejected as rejected}
-use Rattle.lines.specs.Trace.{letterQ, letterG, letterS, letterJ, letterD, howMany, eventOf}
-use Rattle.lines.proofs.Letters.{many-of, event-of, event-tick}
-use Rattle.lines.proofs.event.Statement.{statement}
-use Rattle.lines.proofs.event.Tie as tie
+use Rattle.calls.specs.Letters.{letterQ, letterG, letterS, letterJ, letterD, howMany, eventOf}
+use Rattle.calls.proofs.Letters.{many-of, event-of, event-tick}
+use Rattle.calls.proofs.event.Statement.{statement}
+use Rattle.calls.proofs.event.Tie as tie
 
 shared-slice-read-t5 : tie.Need-shared-slice-read-t5
 unfolding howMany

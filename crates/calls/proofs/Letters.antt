@@ -6,7 +6,7 @@ use mathlib.Core.Logic.{_≢_}
 use borrow.Author.Tests.{ne-eqb}
 use Rattle.rules.specs.declared.Event.{Event}
 use Rattle.rules.specs.declared.Event.the-variants.{Tick as tick}
-use Rattle.lines.specs.Trace.{letterQ, letterG, letterS, letterJ, letterD, letterT, howMany, eventOf}
+use Rattle.calls.specs.Letters.{letterQ, letterG, letterS, letterJ, letterD, letterT, howMany, eventOf}
 
 -- how many numbers, and what happens, of a letter that is known
 module _ (x y : ℕ) (e : x ≡ y) where
