@@ -84,7 +84,7 @@ good-after b c h = rw (after-is b h c (ruling (view b) c) refl) (good-lay (step 
 
 -- a timed call whose first failing check is n
 module _ (b : List ℕ) (g : good b ≡ true) (t : ℕ) (e : Event) (n : ℕ) (d : n ≡ refusal (factsOf b) (timed t e)) where
-  event-refused : (n ≡ 0 → ⊥) → ruling (view b) (timed t e) ≡ answer n 0
+  pub event-refused : (n ≡ 0 → ⊥) → ruling (view b) (timed t e) ≡ answer n 0
   unfolding ruling
   event-refused h = rw (← d, ne-eqb n 0 h)
 

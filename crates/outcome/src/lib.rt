@@ -33,7 +33,7 @@ fn asked(s: &[u32], service: u32) -> bool
 
 // The number of the first check that an outcome of a service fails, 0 if none; range says whether
 // the call's numbers are in range.
-fn checks(s: &[u32], t: u32, range: bool, service: u32) -> u32
+pub fn checks(s: &[u32], t: u32, range: bool, service: u32) -> u32
     requires { ⌜ length (now s) ≡ SIZE ⌝ }
     ensures { λ r. ⌜ r ≡ checked (factsOf (now (s .entry))) t range service ⌝ }
 {
@@ -41,7 +41,7 @@ fn checks(s: &[u32], t: u32, range: bool, service: u32) -> u32
 }
 
 // Whether the numbers of a rejection are in range, and the column is one of the service's.
-fn told(service: u32, cause: u32, second: u32, column: u32) -> bool
+pub fn told(service: u32, cause: u32, second: u32, column: u32) -> bool
     ensures { λ r. ⌜ r ≡ inRange (outcome service (rejected cause second column)) ⌝ }
 {
     let own = (column == service) | ((column == 4) & (service == 3));

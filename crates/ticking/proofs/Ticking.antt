@@ -79,7 +79,7 @@ module _ (b : List ℕ) (g : good b ≡ true) (t : ℕ) where
   pub moved-shape : {x : List ℕ} → x ≡ spread (moved t (factsOf b)) (rows (view b .lists)) → Shape x
   moved-shape e = laid-shape (laid-moved b g t e)
 
-  late : timely (factsOf b) t ≡ false → ruling (view b) (timed t tick) ≡ answer 3 0
+  pub late : timely (factsOf b) t ≡ false → ruling (view b) (timed t tick) ≡ answer 3 0
   unfolding ruling refusal inRange stands
   late h = rw h
 
@@ -90,7 +90,7 @@ module _ (b : List ℕ) (g : good b ≡ true) (t : ℕ) where
     pub in-time : factsOf b .last ≤ t
     in-time = leb-true (factsOf b .last) t (and-left (leb (factsOf b .last) t) _ h)
 
-    ruled : (x : Bool) → orders (view b) t ≡ x → ruling (view b) (timed t tick) ≡ cond x (answer 12 0) (answer 0 0)
+    pub ruled : (x : Bool) → orders (view b) t ≡ x → ruling (view b) (timed t tick) ≡ cond x (answer 12 0) (answer 0 0)
     unfolding ruling refusal inRange stands verdict
     ruled x e = rw (h, e)
 

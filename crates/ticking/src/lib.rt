@@ -17,7 +17,7 @@ ghost use Rattle.ticking.specs.Ticking.{ordered};
 
 // Whether a reset is ordered at t. Row 0 of the limits on request 5 is N1's, and applies while RPM
 // is 1.
-fn orders(s: &[u32], t: u32) -> bool
+pub fn orders(s: &[u32], t: u32) -> bool
     requires { ⌜ length (now s) ≡ SIZE ⌝ }
     requires { ⌜ good (now s) ≡ true ⌝ }
     requires { ⌜ factsOf (now s) .last ≤ t ⌝ }
