@@ -1,6 +1,6 @@
-// The C interface: the twelve calls of the gate, exported. Each slice is a pointer and a count, and
-// each call gives back two numbers. include/dialchisel.h says what the caller owes. Each call
-// promises what the gate's own does.
+// The C interface: the twelve calls of the gate and the ten of the journal, exported. Each slice is a
+// pointer and a count, and each call gives back two numbers. include/dialchisel.h says what the
+// caller owes. Each call promises what the call that it hands on to does.
 use rules::Answer;
 ghost use mathlib.Core.Path.{_≡_};
 ghost use Rattle.rules.specs.Calls.{timed};
@@ -13,6 +13,9 @@ ghost use Rattle.opening.specs.Open.{order, OpenSays};
 ghost use Rattle.turning.specs.Turning.{TurnSays};
 ghost use Rattle.saving.specs.Save.{SaveSays};
 ghost use Rattle.command.specs.Command.{CommandSays};
+ghost use Rattle.records.specs.Records.{times};
+ghost use Rattle.keeping.specs.Keeping.{Journals, JournalsLine, EraseSays, nextOf};
+ghost use Rattle.restarting.specs.Restarting.{RestartSays};
 
 // Opens the state: a new record begins. The card's three files may each be absent, with no bytes:
 // the module's own two rule then, and counters begin at 0. 1 for a state that is not 1,331 numbers,
@@ -151,4 +154,119 @@ pub extern "C" fn dialchisel_counters(state: &mut [u32], out: &mut [u8]) -> Answ
     ensures { λ r. ⌜ SaveSays (now (state .entry)) (now (out .entry)) r (now (state .exit)) (now (out .exit)) ⌝ }
 {
     gate::counters(state, out)
+}
+
+// ---- The journal
+
+// Erases the area: every byte becomes 255.
+#[no_mangle]
+pub extern "C" fn dialchisel_erase(area: &mut [u8]) -> Answer
+    ensures { λ r. ⌜ EraseSays (now (area .entry)) r (now (area .exit)) ⌝ }
+{
+    keeping::erase(area)
+}
+
+// The slot that the next append writes; 6 where the journal is full. The area is only read.
+#[no_mangle]
+pub extern "C" fn dialchisel_journal_next(area: &[u8]) -> Answer
+    ensures { λ r. ⌜ r ≡ nextOf (now (area .entry)) ⌝ }
+{
+    keeping::next(area)
+}
+
+// The same as `dialchisel_request`, appended before it is answered.
+#[no_mangle]
+pub extern "C" fn dialchisel_journal_request(
+    state: &mut [u32],
+    area: &mut [u8],
+    time: u32,
+    kind: u32,
+) -> Answer
+    ensures { λ r. ⌜ Journals (now (state .entry)) (now (area .entry)) (times time (ask kind)) r (now (state .exit)) (now (area .exit)) ⌝ }
+{
+    keeping::request(state, area, time, kind)
+}
+
+// The same as `dialchisel_granted`, appended before it is answered.
+#[no_mangle]
+pub extern "C" fn dialchisel_journal_granted(
+    state: &mut [u32],
+    area: &mut [u8],
+    time: u32,
+    service: u32,
+) -> Answer
+    ensures { λ r. ⌜ Journals (now (state .entry)) (now (area .entry)) (times time (outcome service granted)) r (now (state .exit)) (now (area .exit)) ⌝ }
+{
+    keeping::granted(state, area, time, service)
+}
+
+// The same as `dialchisel_rejected`, appended before it is answered.
+#[no_mangle]
+pub extern "C" fn dialchisel_journal_rejected(
+    state: &mut [u32],
+    area: &mut [u8],
+    time: u32,
+    service: u32,
+    cause: u32,
+    second: u32,
+    column: u32,
+) -> Answer
+    ensures { λ r. ⌜ Journals (now (state .entry)) (now (area .entry)) (times time (outcome service (rejected cause second column))) r (now (state .exit)) (now (area .exit)) ⌝ }
+{
+    keeping::rejected(state, area, time, service, cause, second, column)
+}
+
+// The same as `dialchisel_silent`, appended before it is answered.
+#[no_mangle]
+pub extern "C" fn dialchisel_journal_silent(
+    state: &mut [u32],
+    area: &mut [u8],
+    time: u32,
+    service: u32,
+) -> Answer
+    ensures { λ r. ⌜ Journals (now (state .entry)) (now (area .entry)) (times time (outcome service silent)) r (now (state .exit)) (now (area .exit)) ⌝ }
+{
+    keeping::silent(state, area, time, service)
+}
+
+// The same as `dialchisel_dropped`, appended before it is answered.
+#[no_mangle]
+pub extern "C" fn dialchisel_journal_dropped(
+    state: &mut [u32],
+    area: &mut [u8],
+    time: u32,
+) -> Answer
+    ensures { λ r. ⌜ Journals (now (state .entry)) (now (area .entry)) (times time dropped) r (now (state .exit)) (now (area .exit)) ⌝ }
+{
+    keeping::dropped(state, area, time)
+}
+
+// The same as `dialchisel_tick`, appended before it is answered.
+#[no_mangle]
+pub extern "C" fn dialchisel_journal_tick(state: &mut [u32], area: &mut [u8], time: u32) -> Answer
+    ensures { λ r. ⌜ Journals (now (state .entry)) (now (area .entry)) (times time tick) r (now (state .exit)) (now (area .exit)) ⌝ }
+{
+    keeping::tick(state, area, time)
+}
+
+// The same as `dialchisel_command`, appended before it is answered.
+#[no_mangle]
+pub extern "C" fn dialchisel_journal_command(
+    state: &mut [u32],
+    area: &mut [u8],
+    line: &[u8],
+    out: &mut [u8],
+) -> Answer
+    ensures { λ r. ⌜ JournalsLine (now (state .entry)) (now (area .entry)) (now (line .entry)) (now (out .entry)) r (now (state .exit)) (now (area .exit)) (now (out .exit)) ⌝ }
+{
+    noting::command(state, area, line, out)
+}
+
+// The state after an image and the journal that was begun with it: 1 for the length of the area or
+// the state, 7 where the image or the journal is bad.
+#[no_mangle]
+pub extern "C" fn dialchisel_restart(image: &[u32], area: &mut [u8], state: &mut [u32]) -> Answer
+    ensures { λ r. ⌜ RestartSays (now (image .entry)) (now (area .entry)) (now (state .entry)) r (now (area .exit)) (now (state .exit)) ⌝ }
+{
+    restarting::restart(image, area, state)
 }
