@@ -38,14 +38,19 @@
  * Nothing is owed about contents: for any numbers, bytes and lengths, every call is safe and answers exactly as written here.
  *
  * What you get:
- * - A refused call (numbers 1 to 5) changes nothing in any buffer. const buffers are never written.
+ * - A refused call (numbers 1 to 7) changes nothing in any buffer. const buffers are never written.
  * - The library keeps no state of its own, allocates nothing, waits for nothing, and calls nothing but memmove and memset. Different
  *   states may be used at the same time.
  * - The state holds no pointers: it may be copied, saved and brought back. Each call that is given
- *   it, but the two that make one, first checks all of it against the table at the end of this
- *   file, and refuses with 1 what does not fit. dialchisel_error alone is given none.
+ *   it, but the three that make one, first checks all of it against the table at the end of this
+ *   file, and refuses with 1 what does not fit. dialchisel_error, dialchisel_erase and
+ *   dialchisel_journal_next are given none.
  * - This is version 2 of the state. One that was saved in version 1 is refused with 1 too, until
  *   dialchisel_turn_1 has made one of version 2 from it.
+ * - Where the power may fail at any time, a journal keeps what a saved state does not have yet: the
+ *   calls dialchisel_journal_* and dialchisel_restart, with a page of their own below. Without one,
+ *   use the plain calls, as above. On a state that has a journal, make no plain call where there is
+ *   a journaled form of it: it would not be in the journal.
  */
 #ifndef DIALCHISEL_H
 #define DIALCHISEL_H
@@ -58,12 +63,14 @@ extern "C" {
 #endif
 
 /* Sizes: the state and the room of dialchisel_why in numbers, the rest in bytes. A file that the card lacks has none. */
-#define DIALCHISEL_STATE 1331         /* exactly */
+#define DIALCHISEL_STATE 1331         /* exactly; an image of it too */
 #define DIALCHISEL_STATE_1 1330       /* exactly: a state of version 1, for dialchisel_turn_1 */
 #define DIALCHISEL_RULES 8            /* exactly: a time for each bit of enum dialchisel_rule_bit */
 #define DIALCHISEL_PARAMETER_FILE 32  /* exactly: N1, T1, F1, F2, F3, F4, then zeros */
 #define DIALCHISEL_LEAK_FILE 6        /* exactly: LR-1, LR-2, LR-3, then zeros */
 #define DIALCHISEL_COUNTER_FILE 32    /* exactly: C-BR-1, C-R-1, C-PDP-1 to C-PDP-4, then zeros */
+#define DIALCHISEL_JOURNAL 65536      /* exactly: 512 slots of DIALCHISEL_RECORD bytes */
+#define DIALCHISEL_RECORD 128
 #define DIALCHISEL_AT_ROOM 16         /* at least; the longest answer is 15 */
 #define DIALCHISEL_INTERVALS 10       /* at most, and at least one; each 1 to 65,535 s, none below the one before */
 #define DIALCHISEL_LATEST 4000000000u /* the latest time, in seconds */
@@ -95,24 +102,28 @@ enum dialchisel_column {
 };
 
 /* The first number given back. The second is 0 but for 0 (bytes written by command and counters,
- * the number that error tells), 10 (seconds left), 11 and 13 to 18 (seconds until that limit by
- * itself would permit) and 20 (the wait in seconds); in dialchisel_why it is the bits of the rules,
- * and there a block moves and counts nothing. Checks run in the order 1, 2, 3, 4, or 1, 5 for an AT
- * line; then 10, then the limits in the order of their numbers: the first that blocks is the one
- * told, and it alone counts. Treat a number that is not here as "no": later versions may add
- * some. */
+ * the number that error tells, the slot that journal_next tells), 10 (seconds left), 11 and 13 to
+ * 18 (seconds until that limit by itself would permit) and 20 (the wait in seconds); in
+ * dialchisel_why it is the bits of the rules, and there a block moves and counts nothing. Checks
+ * run in the order 1, 2, 3, 4, or 1, 5 for an AT line; then 6 in a journaled call; then 10, then
+ * the limits in the order of their numbers: the first that blocks is the one told, and it alone
+ * counts. Treat a number that is not here as "no": later versions may add some. */
 enum dialchisel_number {
     DIALCHISEL_DONE = 0,              /* done or permitted */
     /* Refused: nothing changed. */
     DIALCHISEL_REFUSED_BUFFER = 1,    /* state not 1,331 numbers, not of version 2 or damaged (the
                                        * calls that make one ask the length only), AT room under 16,
-                                       * counter room not 32, room of why not 8; in turn_1 also an
-                                       * old state not 1,330 numbers, not of version 1 or damaged */
+                                       * counter room not 32, room of why not 8, area of a journal
+                                       * not 65,536 bytes; in turn_1 also an old state not 1,330
+                                       * numbers, not of version 1 or damaged */
     DIALCHISEL_REFUSED_RANGE = 2,     /* service, kind, cause, flag, column or setting out of range;
                                        * a column of another service; at opening, a bad file */
     DIALCHISEL_REFUSED_TIME = 3,      /* time below the last one or above 4,000,000,000; opening needs no earlier time */
     DIALCHISEL_REFUSED_STANDING = 4,  /* the service does not stand where the call needs it */
     DIALCHISEL_REFUSED_LINE = 5,      /* not an AT line of the four forms below */
+    DIALCHISEL_REFUSED_FULL = 6,      /* the journal is full: no slot begins with 255 */
+    DIALCHISEL_REFUSED_JOURNAL = 7,   /* from restart alone: the image is bad, or the journal is, or
+                                       * has a record that the gate would not write there */
     /* Blocked: do not send. The clock moved, counters leaked, and the limit's own counter rose by one, to 255 at most. Second of a limit: 1
      * to 3,600 seconds. To wait so long is enough for that limit, unless something is permitted in between, and a second less is not.
      * Another rule may still block, so ask again then. */
@@ -279,6 +290,117 @@ struct dialchisel_answer dialchisel_counters(uint32_t *state, size_t state_count
  * given: the last time stays. Answers 0, or refuses with 1. */
 struct dialchisel_answer dialchisel_turn_1(const uint32_t *old, size_t old_count,
                                            uint32_t *state, size_t state_count);
+
+/* The journal. Each call that changes the state or may change it, an opening and a turning aside,
+ * has a journaled form. Where the call is accepted, the form first writes it with its answer as a
+ * record of 128 bytes into the area that you lend, and only then changes the state and answers.
+ * From the image, a copy of the state as it was when the journal was begun, and from the records,
+ * dialchisel_restart makes the state anew: that of before the call that was cut off or that of
+ * after it, and every call whose answer you have is in it.
+ *
+ *     static uint32_t state[DIALCHISEL_STATE];
+ *     uint8_t *area = ...;              this and the image survive a cut of the power
+ *     const uint32_t *image = ...;
+ *
+ *     at each power-up, before any other call on them:
+ *     a = dialchisel_restart(image, DIALCHISEL_STATE, area, DIALCHISEL_JOURNAL,
+ *                            state, DIALCHISEL_STATE);
+ *     ...
+ *     a = dialchisel_journal_request(state, DIALCHISEL_STATE, area, DIALCHISEL_JOURNAL,
+ *                                    now(), DIALCHISEL_PDP_ACTIVATION);
+ *     if (a.number == DIALCHISEL_REFUSED_FULL) {
+ *         begin_a_new_pair();           then make the call again
+ *     }
+ *
+ * What you owe besides:
+ * - The area is what survives a cut, and it does so byte by byte in the order written: an append
+ *   writes its slot from the first byte to the last, restart fills a slot from the last byte to the
+ *   first. Mapped FRAM or MRAM is so, where nothing between the processor and it changes the order
+ *   of its writes. Where it is not mapped, lend a mirror of it in RAM. Ask dialchisel_journal_next
+ *   before the call: it names the one slot, 128 bytes from 128 * second on, that an accepted call
+ *   will write. After the call write these 128 bytes through, front to back, and only then act on
+ *   the answer. After a restart, where a torn slot was filled, write it through back to front,
+ *   before the next call: it is the one that dialchisel_journal_next names then.
+ * - At a power-up dialchisel_restart comes before the next journaled call. A call made before it
+ *   may go behind a slot that was torn, and such a journal is refused with 7 for ever.
+ * - An image goes with the journal that was begun with it. A new image beside the old journal may
+ *   be answered with 0 and have a permit counted twice; an old image beside a new journal may be
+ *   answered with 0 and lack permits.
+ * - Every accepted call since the image went through this journal.
+ *
+ * To begin a journal, make a pair: an image, which is a copy of the state, and an erased area. This
+ * is due after dialchisel_open and after dialchisel_turn_1, which no journal has; when a call is
+ * refused with 6, or before that, at an hour of your choice; and when a pair was refused with 7 and
+ * you have opened anew. Keep two pairs and one selector, a byte say, that tells which of them
+ * rules. Write the new image and erase the new area beside the pair that rules; when both are
+ * written through, write the selector, last. A cut before that finds the old pair whole, a cut
+ * after it the new one, and never a part of each. No journaled call may come between the copy of
+ * the state and the selector.
+ *
+ * A call that is refused with 6 has not happened: it is in no record and counts nowhere, so nothing
+ * may be sent by it. Making room means a new pair, with an image of the state as it is now: the 512
+ * records are in it already. Erasing the area beside the old image would lose them.
+ *
+ * The records, for who wants to read them: byte 0 is the letter of the call, Q a request, G
+ * granted, S silent, J rejected, D dropped, T a tick, A an AT line; then its numbers in the order
+ * of the call's arguments, the time first, four bytes each, the lowest first, or of an AT line its
+ * length in four bytes and its bytes, CR included; then the two numbers of the answer, four bytes
+ * each; then zeros to byte 127. A slot that begins with 255 is free. One that does not, and whose
+ * last byte is not 0, is torn. */
+
+/* The calls of the same names without "journal", through a journal. Each answers, changes the state
+ * and writes its room as the plain call does, and the record goes to the first slot that begins
+ * with 255. Refused are also: with 1 an area that is not of 65,536 bytes; with 6, where all the
+ * checks of the plain call have passed, a journal without a free slot. A block (10, 11, 13 to 18)
+ * is no refusal: it moves the clock, so it is in the journal; AT+NFM=? is in it too. What stands in
+ * the other slots is not looked at. */
+struct dialchisel_answer dialchisel_journal_request(uint32_t *state, size_t state_count,
+                                                    uint8_t *area, size_t area_count,
+                                                    uint32_t time, uint32_t kind);
+struct dialchisel_answer dialchisel_journal_granted(uint32_t *state, size_t state_count,
+                                                    uint8_t *area, size_t area_count,
+                                                    uint32_t time, uint32_t service);
+struct dialchisel_answer dialchisel_journal_rejected(uint32_t *state, size_t state_count,
+                                                     uint8_t *area, size_t area_count,
+                                                     uint32_t time, uint32_t service,
+                                                     uint32_t cause, uint32_t second,
+                                                     uint32_t column);
+struct dialchisel_answer dialchisel_journal_silent(uint32_t *state, size_t state_count,
+                                                   uint8_t *area, size_t area_count,
+                                                   uint32_t time, uint32_t service);
+struct dialchisel_answer dialchisel_journal_dropped(uint32_t *state, size_t state_count,
+                                                    uint8_t *area, size_t area_count,
+                                                    uint32_t time);
+struct dialchisel_answer dialchisel_journal_tick(uint32_t *state, size_t state_count,
+                                                 uint8_t *area, size_t area_count, uint32_t time);
+struct dialchisel_answer dialchisel_journal_command(uint32_t *state, size_t state_count,
+                                                    uint8_t *area, size_t area_count,
+                                                    const uint8_t *line, size_t line_count,
+                                                    uint8_t *room, size_t room_count);
+
+/* Makes the area a journal without records: every byte becomes 255. Answers 0, or refuses with 1.
+ * The image that goes with it is the state as it is now. */
+struct dialchisel_answer dialchisel_erase(uint8_t *area, size_t area_count);
+
+/* Which slot will the next accepted call write? Nothing changes. Answers 0 and its number, 0 to
+ * 511: its bytes begin at 128 times that; 6 where the journal is full; or refuses with 1. */
+struct dialchisel_answer dialchisel_journal_next(const uint8_t *area, size_t area_count);
+
+/* Makes the state that the image and the journal begun with it tell: that of the image after the
+ * calls of all whole records. A torn slot behind them, which a cut has left, is dropped: it is
+ * filled with 255, from its last byte to its first, so that a cut there is found the same way. All
+ * is judged before anything is written. What was in the state does not matter; the image is not
+ * written. Answers 0, or refuses with 1 for the length of the area or the state, with 7 where
+ *   - the image is not a good state of this version, of exactly 1,331 numbers, or
+ *   - the area is not whole records from its begin on, then at most one torn slot, then 255s, or
+ *   - a whole record is none that the gate would write there: the call, made on the state that the
+ *     image and the records before it give, would be refused or get another answer, or another byte
+ *     of the record would be different.
+ * It works on a copy of the state: it takes 5,324 bytes of stack and some hundred more, and as long
+ * as all the calls of the journal together. */
+struct dialchisel_answer dialchisel_restart(const uint32_t *image, size_t image_count,
+                                            uint8_t *area, size_t area_count,
+                                            uint32_t *state, size_t state_count);
 
 /* Where things stand in the state, for reading. Do not write there: a place changed by hand is either refused with 1 from then on or,
  * worse, believed. */
