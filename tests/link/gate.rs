@@ -60,6 +60,65 @@ pub mod c {
         ) -> Answer;
         pub fn dialchisel_counters(state: *mut u32, state_count: usize, room: *mut u8, room_count: usize) -> Answer;
         pub fn dialchisel_turn_1(old: *const u32, old_count: usize, state: *mut u32, state_count: usize) -> Answer;
+        pub fn dialchisel_erase(area: *mut u8, area_count: usize) -> Answer;
+        pub fn dialchisel_journal_next(area: *const u8, area_count: usize) -> Answer;
+        pub fn dialchisel_restart(
+            image: *const u32,
+            image_count: usize,
+            area: *mut u8,
+            area_count: usize,
+            state: *mut u32,
+            state_count: usize,
+        ) -> Answer;
+        pub fn dialchisel_journal_request(
+            state: *mut u32,
+            state_count: usize,
+            area: *mut u8,
+            area_count: usize,
+            time: u32,
+            kind: u32,
+        ) -> Answer;
+        pub fn dialchisel_journal_granted(
+            state: *mut u32,
+            state_count: usize,
+            area: *mut u8,
+            area_count: usize,
+            time: u32,
+            service: u32,
+        ) -> Answer;
+        #[allow(clippy::too_many_arguments)]
+        pub fn dialchisel_journal_rejected(
+            state: *mut u32,
+            state_count: usize,
+            area: *mut u8,
+            area_count: usize,
+            time: u32,
+            service: u32,
+            cause: u32,
+            second: u32,
+            column: u32,
+        ) -> Answer;
+        pub fn dialchisel_journal_silent(
+            state: *mut u32,
+            state_count: usize,
+            area: *mut u8,
+            area_count: usize,
+            time: u32,
+            service: u32,
+        ) -> Answer;
+        pub fn dialchisel_journal_dropped(state: *mut u32, state_count: usize, area: *mut u8, area_count: usize, time: u32) -> Answer;
+        pub fn dialchisel_journal_tick(state: *mut u32, state_count: usize, area: *mut u8, area_count: usize, time: u32) -> Answer;
+        #[allow(clippy::too_many_arguments)]
+        pub fn dialchisel_journal_command(
+            state: *mut u32,
+            state_count: usize,
+            area: *mut u8,
+            area_count: usize,
+            line: *const u8,
+            line_count: usize,
+            room: *mut u8,
+            room_count: usize,
+        ) -> Answer;
     }
 }
 
@@ -68,6 +127,10 @@ pub const STATE: usize = 1331;
 
 /// How many numbers a state of version 1 had.
 pub const STATE_1: usize = 1330;
+
+/// How many bytes a journal has, and each of its records.
+pub const JOURNAL: usize = 65_536;
+pub const RECORD: usize = 128;
 
 /// How many rules can stand against a request.
 pub const RULES: usize = 8;
@@ -149,6 +212,10 @@ pub enum Refusal {
     Standing,
     /// The AT line has none of the four forms.
     Line,
+    /// The journal has no slot left.
+    Full,
+    /// From `restart` alone: the image or the journal is bad, or they do not belong together.
+    Journal,
 }
 
 /// The rule that forbids a request. Each limit has the seconds, 1 to 3,600, until it by itself would permit. To wait so long is enough for
@@ -257,6 +324,8 @@ impl From<c::Answer> for Verdict {
             3 => Verdict::Refused(Refusal::Time),
             4 => Verdict::Refused(Refusal::Standing),
             5 => Verdict::Refused(Refusal::Line),
+            6 => Verdict::Refused(Refusal::Full),
+            7 => Verdict::Refused(Refusal::Journal),
             10 => Verdict::Blocked(Block::BackOff(second)),
             11 => Verdict::Blocked(Block::N1(second)),
             12 => Verdict::ResetOrdered,
@@ -417,5 +486,100 @@ impl Gate {
             Verdict::Done(_) => Ok(gate),
             other => Err(other),
         }
+    }
+}
+
+/// A gate whose accepted calls go into a journal first. The area is what survives a cut of the
+/// power, with the image beside it: both belong to the caller, and an image goes with the journal
+/// that was begun with it.
+pub struct Journaled<'a> {
+    gate: Gate,
+    area: &'a mut [u8; JOURNAL],
+}
+
+impl<'a> Journaled<'a> {
+    /// Begins a journal in this area, which is erased. The image that goes with it is the gate's
+    /// state as it is now.
+    pub fn begin(gate: Gate, area: &'a mut [u8; JOURNAL]) -> Journaled<'a> {
+        // SAFETY (here and below): as in `Gate`; the area is borrowed for writing all the time. The
+        // area has its length, so the first number is 0.
+        unsafe { c::dialchisel_erase(area.as_mut_ptr(), JOURNAL) };
+        Journaled { gate, area }
+    }
+
+    /// The gate as its image and the journal begun with it tell, or why it was refused. After each
+    /// power-up, before anything else.
+    pub fn restart(image: &[u32], area: &'a mut [u8; JOURNAL]) -> Result<Journaled<'a>, Verdict> {
+        let mut gate = Gate { state: [0; STATE] };
+        let state = gate.state.as_mut_ptr();
+        match unsafe { c::dialchisel_restart(image.as_ptr(), image.len(), area.as_mut_ptr(), JOURNAL, state, STATE) }.into() {
+            Verdict::Done(_) => Ok(Journaled { gate, area }),
+            other => Err(other),
+        }
+    }
+
+    /// The gate, to be asked why, read or saved.
+    pub fn gate(&self) -> &Gate {
+        &self.gate
+    }
+
+    /// The journal, to be saved or flushed.
+    pub fn area(&self) -> &[u8; JOURNAL] {
+        self.area
+    }
+
+    /// The slot of `RECORD` bytes that the next accepted call writes; `None` where the journal is
+    /// full.
+    pub fn next(&self) -> Option<usize> {
+        let answer = unsafe { c::dialchisel_journal_next(self.area.as_ptr(), JOURNAL) };
+        (answer.number == 0).then_some(answer.second as usize)
+    }
+
+    pub fn request(&mut self, time: u32, request: Request) -> Verdict {
+        let (state, area) = self.lent();
+        unsafe { c::dialchisel_journal_request(state, STATE, area, JOURNAL, time, request as u32) }.into()
+    }
+
+    pub fn granted(&mut self, time: u32, service: Service) -> Verdict {
+        let (state, area) = self.lent();
+        unsafe { c::dialchisel_journal_granted(state, STATE, area, JOURNAL, time, service as u32) }.into()
+    }
+
+    pub fn rejected(&mut self, time: u32, service: Service, cause: u8, second_network: bool, column: Column) -> Verdict {
+        let (service, cause, second, column) = (service as u32, u32::from(cause), u32::from(second_network), column as u32);
+        let (state, area) = self.lent();
+        unsafe { c::dialchisel_journal_rejected(state, STATE, area, JOURNAL, time, service, cause, second, column) }.into()
+    }
+
+    pub fn silent(&mut self, time: u32, service: Service) -> Verdict {
+        let (state, area) = self.lent();
+        unsafe { c::dialchisel_journal_silent(state, STATE, area, JOURNAL, time, service as u32) }.into()
+    }
+
+    pub fn dropped(&mut self, time: u32) -> Verdict {
+        let (state, area) = self.lent();
+        unsafe { c::dialchisel_journal_dropped(state, STATE, area, JOURNAL, time) }.into()
+    }
+
+    /// Tells the time, as `Gate::tick` does.
+    pub fn tick(&mut self, time: u32) -> Verdict {
+        let (state, area) = self.lent();
+        unsafe { c::dialchisel_journal_tick(state, STATE, area, JOURNAL, time) }.into()
+    }
+
+    /// Obeys an AT line that ends in its CR; the answer's bytes go to the room.
+    pub fn command(&mut self, line: &[u8], room: &mut [u8]) -> Verdict {
+        let (out, count) = (room.as_mut_ptr(), room.len());
+        let (state, area) = self.lent();
+        unsafe { c::dialchisel_journal_command(state, STATE, area, JOURNAL, line.as_ptr(), line.len(), out, count) }.into()
+    }
+
+    /// Writes the counter file for the card. It changes nothing, so no journal has it.
+    pub fn counters(&mut self, file: &mut [u8; 32]) -> Verdict {
+        self.gate.counters(file)
+    }
+
+    fn lent(&mut self) -> (*mut u32, *mut u8) {
+        (self.gate.state.as_mut_ptr(), self.area.as_mut_ptr())
     }
 }

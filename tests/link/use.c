@@ -1,7 +1,7 @@
 /* A C program on the archive: document 01's printed example, refusals, AT lines, why the gate says
  * no and when to come back, the counter file, a card that lacks its files, the columns of causes, a
- * timed reset, a state of version 1. It ends in failure on any surprise. It is C99, and C++17
- * too. */
+ * timed reset, a state of version 1, a journal and cuts of the power. It ends in failure on any
+ * surprise. It is C99, and C++17 too. */
 #include "dialchisel.h"
 
 #include <stdio.h>
@@ -299,6 +299,194 @@ static void turned(void)
     same("and goes on", dialchisel_tick(state, count, 20000), DIALCHISEL_DONE, 0);
 }
 
+/* What survives a cut of the power: two pairs of an image and the journal begun with it, and a
+ * selector that tells which of them rules. */
+struct pair {
+    uint32_t image[DIALCHISEL_STATE];
+    uint8_t area[DIALCHISEL_JOURNAL];
+};
+static struct pair pairs[2];
+static uint8_t selector;
+static const size_t size = DIALCHISEL_JOURNAL;
+
+static uint8_t *area(void)
+{
+    return pairs[selector].area;
+}
+
+/* A new image and an erased area replace the old pair in one step: the selector is written last. */
+static void new_pair(void)
+{
+    struct pair *other = &pairs[1 - selector];
+    memcpy(other->image, state, sizeof state);
+    same("erase", dialchisel_erase(other->area, size), DIALCHISEL_DONE, 0);
+    selector = (uint8_t)(1 - selector);
+}
+
+/* The state is lost, and is made anew. */
+static struct dialchisel_answer power_up(void)
+{
+    memset(state, 0xa5, sizeof state);
+    return dialchisel_restart(pairs[selector].image, count, area(), size, state, count);
+}
+
+/* Every journaled call, and the bytes of two records. */
+static void journaled(void)
+{
+    static const uint8_t record_1[] = {'J', 0x8a, 0x13, 0, 0, 2, 0, 0, 0, 26, 0, 0, 0, 0, 0, 0, 0,
+                                       2, 0, 0, 0, 20, 0, 0, 0, 103, 0, 0, 0, 0};
+    static const uint8_t record_5[] = "A\x09\0\0\0AT+NFM=?\r\0\0\0\0\x0f\0\0";
+    uint8_t *a, room[DIALCHISEL_AT_ROOM];
+    same("opened", opened_for(zeros, DIALCHISEL_PARAMETER_FILE, NULL, 0, DIALCHISEL_PARAMETER_FILE),
+         DIALCHISEL_DONE, 0);
+    new_pair();
+    a = area();
+    same("first slot", dialchisel_journal_next(a, size), DIALCHISEL_DONE, 0);
+    same("asked", dialchisel_journal_request(state, count, a, size, 5000, DIALCHISEL_PDP_ACTIVATION),
+         DIALCHISEL_DONE, 0);
+    same("rejected", dialchisel_journal_rejected(state, count, a, size, 5002, DIALCHISEL_PDP, 26, 0,
+                                                 DIALCHISEL_COLUMN_SM),
+         DIALCHISEL_BACKED_OFF, 103);
+    same("held", dialchisel_journal_request(state, count, a, size, 5003, DIALCHISEL_PDP_ACTIVATION),
+         DIALCHISEL_BLOCKED_BACKOFF, 102);
+    same("asked", dialchisel_journal_request(state, count, a, size, 5105, DIALCHISEL_PDP_ACTIVATION),
+         DIALCHISEL_DONE, 0);
+    same("granted", dialchisel_journal_granted(state, count, a, size, 5106, DIALCHISEL_PDP),
+         DIALCHISEL_DONE, 0);
+    memset(room, '.', sizeof room);
+    same("AT read", dialchisel_journal_command(state, count, a, size, (const uint8_t *)"AT+NFM=?\r", 9,
+                                               room, sizeof room), DIALCHISEL_DONE, 15);
+    is("its answer", memcmp(room, "+NFM: 1,0\r\nOK\r\n.", sizeof room) == 0);
+    same("dropped", dialchisel_journal_dropped(state, count, a, size, 5107), DIALCHISEL_DONE, 0);
+    same("SMS", dialchisel_journal_request(state, count, a, size, 5107, DIALCHISEL_SMS_SENDING),
+         DIALCHISEL_DONE, 0);
+    same("silence", dialchisel_journal_silent(state, count, a, size, 5108, DIALCHISEL_SMS),
+         DIALCHISEL_BACKED_OFF, 103);
+    same("tick", dialchisel_journal_tick(state, count, a, size, 5109), DIALCHISEL_DONE, 0);
+    same("ten are written", dialchisel_journal_next(a, size), DIALCHISEL_DONE, 10);
+    is("a rejection", memcmp(a + 1 * DIALCHISEL_RECORD, record_1, sizeof record_1) == 0);
+    is("an AT line", memcmp(a + 5 * DIALCHISEL_RECORD, record_5, sizeof record_5) == 0);
+    is("its end", memcmp(a + 6 * DIALCHISEL_RECORD - 32, zeros, 32) == 0);
+}
+
+/* Refusals of the journal, and that none of them changes anything. */
+static void journal_refusals(void)
+{
+    uint32_t before[DIALCHISEL_STATE], old[DIALCHISEL_STATE_1];
+    struct pair pair = pairs[selector];
+    uint8_t *a = area(), room[DIALCHISEL_AT_ROOM];
+    memcpy(before, state, sizeof before);
+    same("short area", dialchisel_journal_tick(state, count, a, size - 1, 5110),
+         DIALCHISEL_REFUSED_BUFFER, 0);
+    same("no such kind", dialchisel_journal_request(state, count, a, size, 5110, 6),
+         DIALCHISEL_REFUSED_RANGE, 0);
+    same("time went back", dialchisel_journal_tick(state, count, a, size, 5108),
+         DIALCHISEL_REFUSED_TIME, 0);
+    same("not up", dialchisel_journal_dropped(state, count, a, size, 5110),
+         DIALCHISEL_REFUSED_STANDING, 0);
+    same("no line", dialchisel_journal_command(state, count, a, size, NULL, 0, room, sizeof room),
+         DIALCHISEL_REFUSED_LINE, 0);
+    same("no area", dialchisel_erase(NULL, 0), DIALCHISEL_REFUSED_BUFFER, 0);
+    same("no area", dialchisel_journal_next(NULL, 0), DIALCHISEL_REFUSED_BUFFER, 0);
+    same("no area", dialchisel_restart(pair.image, count, NULL, 0, state, count),
+         DIALCHISEL_REFUSED_BUFFER, 0);
+    memcpy(old, pair.image, sizeof old);
+    old[DIALCHISEL_PLACE_VERSION] = 1;
+    same("image of version 1", dialchisel_restart(old, DIALCHISEL_STATE_1, a, size, state, count),
+         DIALCHISEL_REFUSED_JOURNAL, 0);
+    is("refusals change nothing", memcmp(before, state, sizeof before) == 0);
+    is("nor the area", memcmp(pair.area, a, size) == 0);
+
+    a[2 * DIALCHISEL_RECORD + 1] ^= 1; /* the time of the third record */
+    same("a bit turned", power_up(), DIALCHISEL_REFUSED_JOURNAL, 0);
+    a[2 * DIALCHISEL_RECORD + 1] ^= 1;
+    same("turned back", power_up(), DIALCHISEL_DONE, 0);
+    is("as it was", memcmp(before, state, sizeof before) == 0);
+}
+
+/* The power is cut when so many bytes of a request's record are written. The state is found as it
+ * was before it or after it, and goes on. */
+static void cut(size_t bytes)
+{
+    uint32_t before[DIALCHISEL_STATE], after[DIALCHISEL_STATE];
+    uint32_t time = state[DIALCHISEL_PLACE_LAST];
+    struct dialchisel_answer next = dialchisel_journal_next(area(), size);
+    uint8_t *slot = area() + DIALCHISEL_RECORD * next.second;
+    memcpy(before, state, sizeof before);
+    same("reset", dialchisel_journal_request(state, count, area(), size, time, DIALCHISEL_MODULE_RESET),
+         DIALCHISEL_DONE, 0);
+    memcpy(after, state, sizeof after);
+    memset(slot + bytes, 255, DIALCHISEL_RECORD - bytes);
+    same("power up", power_up(), DIALCHISEL_DONE, 0);
+    if (bytes == DIALCHISEL_RECORD) {
+        is("as after the call", memcmp(after, state, sizeof after) == 0);
+        return;
+    }
+    is("as before the call", memcmp(before, state, sizeof before) == 0);
+    same("its slot is free", dialchisel_journal_next(area(), size), DIALCHISEL_DONE, next.second);
+    is("all of it", slot[0] == 255 && memcmp(slot, slot + 1, DIALCHISEL_RECORD - 1) == 0);
+}
+
+/* A memory that is not mapped: the area is its mirror, and the one slot is written through, front
+ * to back, before the answer is acted on. The power is cut in the middle of that. */
+static void mirrored(void)
+{
+    static uint8_t chip[DIALCHISEL_JOURNAL];
+    uint32_t time = state[DIALCHISEL_PLACE_LAST];
+    uint32_t resets = state[DIALCHISEL_PLACE_LENGTHS + DIALCHISEL_LIST_RESET];
+    size_t i, from;
+    memcpy(chip, area(), size);
+    from = DIALCHISEL_RECORD * (size_t)dialchisel_journal_next(area(), size).second;
+    same("reset", dialchisel_journal_request(state, count, area(), size, time, DIALCHISEL_MODULE_RESET),
+         DIALCHISEL_DONE, 0);
+    for (i = 0; i < 50; i++)
+        chip[from + i] = area()[from + i];
+
+    memcpy(area(), chip, size);
+    same("power up", power_up(), DIALCHISEL_DONE, 0);
+    from = DIALCHISEL_RECORD * (size_t)dialchisel_journal_next(area(), size).second;
+    for (i = DIALCHISEL_RECORD; i-- > 0;)
+        chip[from + i] = area()[from + i];
+    is("the chip is as its mirror", memcmp(chip, area(), size) == 0);
+    is("nothing was sent, nothing is counted",
+       state[DIALCHISEL_PLACE_LENGTHS + DIALCHISEL_LIST_RESET] == resets);
+}
+
+/* The journal is filled up: the call that is refused has not happened, and a new pair has room. */
+static void full(void)
+{
+    uint32_t before[DIALCHISEL_STATE];
+    uint32_t time = state[DIALCHISEL_PLACE_LAST], first = dialchisel_journal_next(area(), size).second, i;
+    for (i = first; i < 512; i++)
+        same("tick", dialchisel_journal_tick(state, count, area(), size, ++time), DIALCHISEL_DONE, 0);
+    memcpy(before, state, sizeof before);
+    same("full", dialchisel_journal_next(area(), size), DIALCHISEL_REFUSED_FULL, 0);
+    same("one more", dialchisel_journal_tick(state, count, area(), size, time + 1),
+         DIALCHISEL_REFUSED_FULL, 0);
+    same("the checks come first", dialchisel_journal_tick(state, count, area(), size, time - 1),
+         DIALCHISEL_REFUSED_TIME, 0);
+    is("nothing has changed", memcmp(before, state, sizeof before) == 0);
+    same("power up", power_up(), DIALCHISEL_DONE, 0);
+    is("all 512 are in it", memcmp(before, state, sizeof before) == 0);
+    new_pair();
+    same("power up, new pair", power_up(), DIALCHISEL_DONE, 0);
+    is("the same state", memcmp(before, state, sizeof before) == 0);
+    same("again", dialchisel_journal_tick(state, count, area(), size, time + 1), DIALCHISEL_DONE, 0);
+}
+
+/* A journal and cuts of the power. */
+static void power(void)
+{
+    static const size_t cuts[] = {0, 1, 60, 127, 128};
+    size_t i;
+    journaled();
+    journal_refusals();
+    for (i = 0; i < sizeof cuts / sizeof *cuts; i++)
+        cut(cuts[i]);
+    mirrored();
+    full();
+}
+
 int main(void)
 {
     example();
@@ -308,6 +496,7 @@ int main(void)
     columns();
     timed();
     turned();
+    power();
     printf("use.c: %d answers and places as document 01 has them, %d surprises\n", looked - surprises, surprises);
     return surprises != 0;
 }

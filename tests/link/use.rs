@@ -1,10 +1,11 @@
 //! A Rust program on the safe wrapper: document 01's printed example, refusals, the columns of
 //! causes, why the gate says no and when to come back, an AT line, the counter file, a state that
-//! is saved and brought back, a card that lacks its files, a timed reset, a state of version 1. It
-//! ends in failure on any surprise.
+//! is saved and brought back, a card that lacks its files, a timed reset, a state of version 1, a
+//! journal and cuts of the power. It ends in failure on any surprise.
 mod gate;
 
-use gate::{Advice, Block, Column, Gate, Refusal, Request, Rule, Service, Settings, Verdict, RTC10, STATE, STATE_1};
+use gate::{Advice, Block, Column, Gate, Journaled, Refusal, Request, Rule, Service, Settings, Verdict};
+use gate::{JOURNAL, RECORD, RTC10, STATE, STATE_1};
 use std::process::ExitCode;
 
 /// Notes each surprise and how many things were looked at.
@@ -220,6 +221,105 @@ fn turned(seen: &mut Seen, gate: &Gate) {
     seen.same("not turned", Gate::restored(longer).tick(9000), Verdict::Refused(Refusal::Buffer));
 }
 
+/// What survives a cut of the power: two pairs of an image and its journal, and a selector that
+/// tells which of them rules.
+struct Surviving {
+    pairs: [([u32; STATE], Box<[u8; JOURNAL]>); 2],
+    selector: usize,
+}
+
+impl Surviving {
+    /// A new image and an erased journal replace the old pair in one step: the selector is written
+    /// last.
+    fn begin(&mut self, gate: &Gate) -> Journaled<'_> {
+        let other = 1 - self.selector;
+        let (image, area) = &mut self.pairs[other];
+        *image = *gate.state();
+        let begun = Journaled::begin(gate.clone(), area);
+        self.selector = other;
+        begun
+    }
+
+    /// What is made of the pair that rules, when the power is back.
+    fn power_up(&mut self) -> Result<Journaled<'_>, Verdict> {
+        let (image, area) = &mut self.pairs[self.selector];
+        Journaled::restart(&*image, area)
+    }
+
+    fn area(&mut self) -> &mut [u8; JOURNAL] {
+        &mut self.pairs[self.selector].1
+    }
+}
+
+/// Every journaled call.
+fn journaled(seen: &mut Seen, gate: &mut Journaled) {
+    let done = Verdict::Done(0);
+    seen.same("first slot", gate.next(), Some(0));
+    seen.same("asked", gate.request(1000, Request::PdpActivation), done);
+    let told = gate.rejected(1010, Service::Pdp, 26, false, Column::Sm);
+    seen.same("rejected", told, Verdict::Advice(Advice::BackedOff(103)));
+    seen.same("held", gate.request(1112, Request::PdpActivation), Verdict::Blocked(Block::BackOff(1)));
+    seen.same("asked again", gate.request(1113, Request::PdpActivation), done);
+    seen.same("granted", gate.granted(1114, Service::Pdp), done);
+    seen.same("dropped", gate.dropped(1115), done);
+    seen.same("SMS", gate.request(1116, Request::Sms), done);
+    seen.same("silence", gate.silent(1117, Service::Sms), Verdict::Advice(Advice::BackedOff(103)));
+    seen.same("tick", gate.tick(1118), done);
+    let mut room = [b'.'; 16];
+    seen.same("AT read", gate.command(b"AT+NFM=?\r", &mut room), Verdict::Done(15));
+    seen.same("its answer", &room, b"+NFM: 1,0\r\nOK\r\n.");
+    seen.same("refused", gate.tick(1117), Verdict::Refused(Refusal::Time));
+    seen.same("ten records", gate.next(), Some(10));
+    let letters: Vec<u8> = gate.area().chunks(RECORD).take(11).map(|slot| slot[0]).collect();
+    seen.same("their letters", &letters[..], b"QJQQGDQSTA\xff");
+    seen.same("counters", gate.counters(&mut [0; 32]), Verdict::Done(32));
+}
+
+/// A life with a journal: every call, cuts in the middle of one, a journal that is full, and one
+/// that is damaged.
+fn power(seen: &mut Seen, settings: &Settings) {
+    let Ok(gate) = Gate::open(settings) else {
+        return seen.same("opened for a journal", false, true);
+    };
+    let area = || Box::new([0; JOURNAL]);
+    let mut surviving = Surviving { pairs: [([0; STATE], area()), ([0; STATE], area())], selector: 0 };
+    let mut begun = surviving.begin(&gate);
+    journaled(seen, &mut begun);
+    let mut state = *begun.gate().state();
+
+    for bytes in [0, 1, 60, 127, RECORD] {
+        let Ok(mut gate) = surviving.power_up() else {
+            return seen.same("power up", false, true);
+        };
+        seen.same("as it was", *gate.gate().state() == state, true);
+        let slot = gate.next().unwrap_or(0);
+        seen.same("reset", gate.request(1118, Request::ModuleReset), Verdict::Done(0));
+        if bytes == RECORD {
+            state = *gate.gate().state();
+        }
+        // the power is cut when so many bytes of the record are written
+        surviving.area()[slot * RECORD + bytes..][..RECORD - bytes].fill(255);
+    }
+
+    let Ok(mut gate) = surviving.power_up() else {
+        return seen.same("power up", false, true);
+    };
+    while gate.next().is_some() {
+        seen.same("tick", gate.tick(2000), Verdict::Done(0));
+    }
+    state = *gate.gate().state();
+    seen.same("full", gate.tick(2001), Verdict::Refused(Refusal::Full));
+    seen.same("nothing has changed", *gate.gate().state() == state, true);
+    let gate = gate.gate().clone();
+    seen.same("the new pair has room", surviving.begin(&gate).tick(2001), Verdict::Done(0));
+    let last = surviving.power_up().map(|gate| gate.gate().state()[3]);
+    seen.same("after it", last, Ok(2001));
+
+    surviving.area()[5] = 1;
+    let refused = Err(Verdict::Refused(Refusal::Journal));
+    seen.same("another answer", surviving.power_up().map(|_| ()), refused);
+}
+
 fn main() -> ExitCode {
     let mut seen = Seen { looked: 0, surprises: 0 };
     let mut counters = [0; 32];
@@ -249,6 +349,7 @@ fn main() -> ExitCode {
             lacking(&mut seen, &settings);
             timed(&mut seen, &settings);
             turned(&mut seen, &gate);
+            power(&mut seen, &settings);
         }
         Err(verdict) => {
             eprintln!("use.rs: not opened: {verdict:?}");
