@@ -289,6 +289,11 @@ pub struct Bench {
     /// What was met of the timed reset, and of buffers that are turned.
     pub timed: BTreeMap<&'static str, u64>,
     pub turned: BTreeMap<&'static str, u64>,
+    /// What was met of the journal and of restarts; the answers of journaled calls are counted here
+    /// alone.
+    pub journaled: BTreeMap<&'static str, u64>,
+    pub restarted: BTreeMap<&'static str, u64>,
+    pub journal_answers: BTreeMap<u32, u64>,
 }
 
 impl Bench {

@@ -4,17 +4,20 @@
 //! both registrations with the other one in each of its states, a permit on a full list, a block by
 //! a limit of 254 or 255 or by one of the module's own file, a limit's first or last second, an
 //! opening with some of the card's files and without the others, of `why` a number, a rule, two or
-//! three rules at once or an edge of the lists, or a case of the timed reset or of turning was met
-//! fewer than 100 times.
+//! three rules at once or an edge of the lists, or a case of the timed reset, of turning or of the
+//! journal was met fewer than 100 times.
 mod both;
 mod columns;
+mod cuts;
 mod due;
 mod files;
 #[allow(dead_code)]
 #[path = "../link/gate.rs"]
 mod gate;
+mod journal;
 mod made;
 mod model;
+mod model_journal;
 mod random;
 mod reasons;
 mod turned;
@@ -22,8 +25,10 @@ mod why;
 
 use both::{by_model, file, Bench, Call, Opening, Pair};
 use columns::{ACTIONS, ERRORS, OTHER};
+use cuts::CUT;
 use due::TIMED;
 use files::{LACKING, RPM_BLOCKS};
+use journal::{JOURNALED, RESTARTED};
 use made::EDGES;
 use model::*;
 use random::Random;
@@ -592,6 +597,9 @@ impl Bench {
         println!("compare: numbers beside a cause: {}", listed(&self.errors));
         println!("compare: of the timed reset: {}", listed(&self.timed));
         println!("compare: of turning: {}", listed(&self.turned));
+        println!("compare: journaled calls, answers: {}", listed(&self.journal_answers));
+        println!("compare: of the journal: {}", listed(&self.journaled));
+        println!("compare: of restarts, not cut: {}", listed(&self.restarted));
         let long = self.cuts.iter().all(|&n| n >= LEAST_EACH) && self.high.len() == 7 && self.high.values().all(|&n| n >= LEAST_EACH);
         let mut seldom = too_seldom("answer", &ANSWERS, &self.answers);
         let strange: Vec<&u32> = self.answers.keys().filter(|a| !ANSWERS.contains(a)).collect();
@@ -602,6 +610,9 @@ impl Bench {
         seldom.extend(too_seldom("error", &ERRORS, &self.errors));
         seldom.extend(too_seldom("timed reset", &TIMED, &self.timed));
         seldom.extend(too_seldom("turning", &TURNED, &self.turned));
+        seldom.extend(too_seldom("journal", &JOURNALED, &self.journaled));
+        seldom.extend(too_seldom("journal", &CUT, &self.journaled));
+        seldom.extend(too_seldom("restart", &RESTARTED, &self.restarted));
         for (what, counts) in SECONDS.into_iter().zip(&self.seconds) {
             println!("compare: {what}: {}", listed(counts));
             seldom.extend(too_seldom(what, &LIMITS, counts));
@@ -678,6 +689,9 @@ fn main() {
         errors: BTreeMap::new(),
         timed: BTreeMap::new(),
         turned: BTreeMap::new(),
+        journaled: BTreeMap::new(),
+        restarted: BTreeMap::new(),
+        journal_answers: BTreeMap::new(),
     };
     bench.figures();
     bench.limits();
@@ -702,6 +716,8 @@ fn main() {
     bench.columns();
     bench.due();
     bench.turned();
+    bench.journal();
+    bench.cuts();
     let enough = bench.enough();
     println!("compare: {} calls, no difference", bench.calls);
     exit(i32::from(!enough))

@@ -1,4 +1,4 @@
-//! A model of the twelve calls, eleven of them on the buffer of 1,331 numbers, written from
+//! A model of the twelve plain calls, eleven of them on the buffer of 1,331 numbers, written from
 //! document 01 and from the customer's requests, §1 for `why`, §2 for the files of an opening, §3
 //! for the wait, §4 for the seconds of a limit, §6, with section 7.5 of 000, for causes and
 //! `error`, and §7, with RMM6 to RMM8 and RTC1 of 000, for the timed reset and `turn`, and from
