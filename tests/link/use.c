@@ -373,8 +373,9 @@ static void journaled(void)
 static void journal_refusals(void)
 {
     uint32_t before[DIALCHISEL_STATE], old[DIALCHISEL_STATE_1];
-    struct pair pair = pairs[selector];
+    static struct pair pair;
     uint8_t *a = area(), room[DIALCHISEL_AT_ROOM];
+    pair = pairs[selector];
     memcpy(before, state, sizeof before);
     same("short area", dialchisel_journal_tick(state, count, a, size - 1, 5110),
          DIALCHISEL_REFUSED_BUFFER, 0);
