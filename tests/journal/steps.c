@@ -167,7 +167,15 @@ static int stepped(char letter)
         return 0;
     for (;;) {
         at = place(child);
-        if (ptrace(PTRACE_SINGLESTEP, child, NULL, NULL) != 0 || waitpid(child, &status, 0) != child) {
+        if (ptrace(PTRACE_SINGLESTEP, child, NULL, NULL) != 0) {
+            kill(child, SIGKILL);
+            waitpid(child, &status, 0);
+            if (steps == 0)
+                return 0;
+            fprintf(stderr, "steps: %c: no step more after %lu\n", letter, steps);
+            exit(1);
+        }
+        if (waitpid(child, &status, 0) != child) {
             fprintf(stderr, "steps: %c: the child is lost after %lu steps\n", letter, steps);
             exit(1);
         }
