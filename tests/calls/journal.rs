@@ -93,6 +93,7 @@ pub struct Written {
 }
 
 impl Bench {
+    /// Counts what was met of journaled calls and of cuts, and below of other restarts.
     pub fn note(&mut self, what: &'static str, met: bool) {
         *self.journaled.entry(what).or_default() += u64::from(met);
     }
@@ -317,8 +318,7 @@ impl Bench {
         area
     }
 
-    /// A few calls each on a state that is good, damaged or of version 1, and on an area of any
-    /// kind.
+    /// A few calls each on a state that is good or damaged, and on an area of any kind.
     fn journaled_calls(&mut self) {
         for turn in 0..6_000 {
             let area = self.any_area();
