@@ -39,8 +39,8 @@
  *
  * What you get:
  * - A refused call (numbers 1 to 7) changes nothing in any buffer. const buffers are never written.
- * - The library keeps no state of its own, allocates nothing, waits for nothing, and calls nothing but memmove and memset. Different
- *   states may be used at the same time.
+ * - The library keeps no state of its own, allocates nothing, waits for nothing, and calls nothing
+ *   but memcpy, memmove and memset. Different states may be used at the same time.
  * - The state holds no pointers: it may be copied, saved and brought back. Each call that is given
  *   it, but the three that make one, first checks all of it against the table at the end of this
  *   file, and refuses with 1 what does not fit. dialchisel_error, dialchisel_erase and

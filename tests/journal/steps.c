@@ -126,7 +126,7 @@ static unsigned long place(pid_t child)
 }
 
 /* Is an instruction outside of this program, to which the library is linked: in the C library's
- * memmove or memset? */
+ * memcpy, memmove or memset? */
 static int outside(unsigned long at)
 {
     extern const char __executable_start[], etext[];
@@ -206,7 +206,7 @@ static int stepped(char letter)
         exit(1);
     }
     printf("steps: %c: %lu steps; the slot is written by %lu of them, at most %d byte%s at a time,"
-           " %lu in memmove or memset\n", letter, steps, stores, widest, widest == 1 ? "" : "s", others);
+           " %lu in memcpy, memmove or memset\n", letter, steps, stores, widest, widest == 1 ? "" : "s", others);
     return 1;
 }
 

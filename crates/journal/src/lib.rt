@@ -1,11 +1,11 @@
 // The journal: an area of 65,536 bytes, 512 slots of 128 for a record each. A record is written
-// front to back over bytes of 255, one byte with each store, and its slot is filled again from the
+// front to back over bytes of 255, a byte with each store, and its slot is filled again from the
 // back. Nothing here knows what a record means.
 ghost use mathlib.Core.Path.{_≡_};
 ghost use mathlib.Core.Bool.{Bool, true, false};
 ghost use Prim.Native.Nat.{_+_, _*_, _-_, _≤_, _<_};
 ghost use mathlib.Core.List.{_++_};
-ghost use lib.ListN.{length, take, drop, replicate};
+ghost use lib.ListN.{length, take, drop, set, replicate};
 ghost use Rattle.journal.specs.Area.{slots, slot, written, filled, erased, free, count, survey, Appends};
 
 // The area's bytes.
@@ -34,6 +34,19 @@ pub fn first_free(area: &[u8]) -> usize
     512
 }
 
+// The one store of the journal: byte b at a place, where it does not stand there already. As it is
+// not made of every byte, no compiler makes one copy or filling of a loop of it, in an order of its
+// own.
+fn put(part: &mut [u8], at: usize, b: u8)
+    requires { ⌜ at < length (now part) ⌝ }
+    ensures { λ _. ⌜ now (part .exit) ≡ set (now (part .entry)) at b ⌝ }
+{
+    if part[at] == b {
+        return;
+    }
+    part[at] = b;
+}
+
 // The first n bytes of a record into a slot, front to back.
 fn front(part: &mut [u8], rec: &[u8], n: usize)
     requires { ⌜ (length (now part) ≡ 128) × (length (now rec) ≡ 128) × (n ≤ 128) ⌝ }
@@ -41,7 +54,7 @@ fn front(part: &mut [u8], rec: &[u8], n: usize)
 {
     let mut k: usize = 0;
     while k < n {
-        part[k] = rec[k];
+        put(part, k, rec[k]);
         k += 1;
     }
 }
@@ -77,7 +90,7 @@ fn back(part: &mut [u8], n: usize)
 {
     let mut k: usize = 0;
     while k < n {
-        part[127 - k] = 255;
+        put(part, 127 - k, 255);
         k += 1;
     }
 }

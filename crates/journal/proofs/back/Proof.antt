@@ -1,71 +1,58 @@
+use Rattle.journal.proofs.Bytes.{back-suc}
+use native.Mathlib.Numerals.{add-one}
+use lib.Seq.{take-all}
+use lib.ListN.{replicate}
+use mathlib.Core.List.{_++_, append-nil}
+use Prim.Native.Nat.{suc}
 use Prim.Native.Nat.{ℕ, _≤_, _<_, _+_, _*_, _-_}
 use mathlib.Core.Path.{_≡_, refl, sym, ap, _∙_}
 use mathlib.Core.Logic.{⊎-elim}
 use lib.ListN.{length, getD, take, drop, set, length-set}
 use native.Mathlib.Omega.{arith}
 use borrow.Author.Needs.{needs}
-use mathlib.Core.List.{List, [], _∷_, _++_, append-nil}
-use native.Mathlib.Numerals.{add-one}
-use Prim.Native.Nat.{suc}
-use lib.ListN.{replicate, length-append, length-take, length-drop, length-replicate}
-use lib.Seq.{take-all}
-use Rattle.journal.proofs.Bytes.{front-suc, back-suc}
 use Rattle.journal.proofs.back.Statement.{statement}
 use Rattle.journal.proofs.back.Tie as tie
 use Rattle.journal.proofs.back.Reads as reads
 use Rattle.journal.proofs.back.Lts as lts
+use Rattle.journal.proofs.put.Reads as put-reads
 
 abbrev Inv-loop : tie.InvT-loop
-Inv-loop part₀ n k₀ part k = (k ≤ n) × (part ≡ take (128 - k) part₀ ++ replicate k 255)
+Inv-loop part₀ n k₀ part k = (k ≤ n) × ((length part ≡ 128) × (part ≡ take (128 - k) part₀ ++ replicate k 255))
 
 abbrev μ-loop : tie.MeasureT-loop
 μ-loop part₀ n k₀ part k = n - k
 
--- src/lib.rt:24:5
+-- src/lib.rt:92:5
 loop-holds : tie.Need-loop-holds Inv-loop μ-loop
-loop-holds c = (omega arith, sym (append-nil (take 128 (c .args .part .now)) ∙ take-all 128 (c .args .part .now) (omega arith)))
+loop-holds c = let a = c .before .args .part .now in (omega arith, (c .before .pre .0, sym (append-nil (take 128 a) ∙ take-all 128 a (omega arith))))
 
--- src/lib.rt:25:14
-sub-part : tie.Need-sub-part Inv-loop μ-loop
-sub-part c = search needs
+-- src/lib.rt:93:19
+sub-put : tie.Need-sub-put Inv-loop μ-loop
+sub-put c = search needs
 
--- src/lib.rt:25:9
-slice-write-part : tie.Need-slice-write-part Inv-loop μ-loop
-slice-write-part c =
-    let j = c .before in
-    let l = simp (length-append, length-take, length-drop, length-replicate) at (ap length (j .loop .inv .1)) in
-    omega arith
+-- src/lib.rt:93:9
+put-requires : tie.Need-put-requires Inv-loop μ-loop
+put-requires c κs = omega (arith, c .before .before .loop .inv .1 .0)
 
--- src/lib.rt:26:9
+-- src/lib.rt:94:9
 add-k : tie.Need-add-k Inv-loop μ-loop
 add-k c = search needs
 
--- src/lib.rt:24:5
+-- src/lib.rt:92:5
 loop-less : tie.Need-loop-less Inv-loop μ-loop
 loop-less c = search needs
 
--- src/lib.rt:24:5
+-- src/lib.rt:92:5
 loop-again : tie.Need-loop-again Inv-loop μ-loop
-loop-again c =
-    let j = c .before in
-    let a = j .before .args in
-    let q : 128 - j .loop .k ≡ suc (127 - j .loop .k) = omega arith in
-    let u : 128 - (j .loop .k + 1) ≡ 127 - j .loop .k = omega arith in
-    (omega arith, rw (j .loop .inv .1, q, u, add-one) (back-suc (a .part .now) (127 - j .loop .k) (j .loop .k) (omega arith)))
+loop-again c = let a = c .before .before .before .before .before .before .before .args in let j = c .before .before .before .before .before .loop in let q : 128 - j .k ≡ suc (127 - j .k) = omega arith in let u : 128 - (j .k + 1) ≡ 127 - j .k = omega arith in (omega arith, (c .before .before .put .kept .0 ∙ j .inv .1 .0, c .before .before .put .ensures ∙ rw (j .inv .1 .1, q, u, add-one) (back-suc (a .part .now) (127 - j .k) (j .k) (omega arith))))
 
--- src/lib.rt:19:1
+-- src/lib.rt:87:1
 same-length : tie.Need-same-length Inv-loop μ-loop
-same-length c =
-    let j = c .before in
-    let l = simp (length-append, length-take, length-drop, length-replicate) at (ap length (j .loop .inv .1)) in
-    omega arith
+same-length c = omega (arith, c .before .loop .inv .1 .0, c .before .before .before .pre .0)
 
--- src/lib.rt:19:1
+-- src/lib.rt:87:1
 returns : tie.Need-returns Inv-loop μ-loop
-returns c =
-    let j = c .before in
-    let e : j .loop .k ≡ j .before .args .n = omega arith in
-    rw e at (j .loop .inv .1)
+returns c = let j = c .before .loop in let e : j .k ≡ c .before .before .before .args .n = omega arith in rw e at (j .inv .1 .1)
 
 pub back-spec : {M : Type 1} → statement M
 back-spec =
@@ -74,8 +61,8 @@ back-spec =
     Inv-loop
     μ-loop
     loop-holds
-    sub-part
-    slice-write-part
+    sub-put
+    put-requires
     add-k
     loop-less
     loop-again
