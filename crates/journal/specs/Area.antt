@@ -139,6 +139,11 @@ count a = length (records (slots a))
 unfoldable pub mended : List ℕ → List ℕ
 mended a = pick (torn (slots a)) (filled a (count a) 128) a
 
+-- from a to b by restarts that were cut in their filling, as often as may be
+pub data Dips (a : List ℕ) : List ℕ → Type 0 where
+  still : Dips a a
+  dip : {b c : List ℕ} → Dips a b → torn (slots b) ≡ true → CutFill b (count b) c → Dips a c
+
 -- what a look at the area finds
 unfoldable pub survey : List ℕ → Survey
 survey a = pick (shape (slots a)) (pick (torn (slots a)) (Torn (count a)) (Clean (count a))) Bad

@@ -15,6 +15,7 @@ use Rattle.buffer.specs.Segments.{paste}
 use Rattle.buffer.specs.Layout.{view, factsOf}
 use Rattle.buffer.specs.Good.{good}
 use Rattle.clock.specs.Call.{Says}
+use Rattle.clock.proofs.Saying.{says-bad}
 use Rattle.at.specs.Lines.{readLine}
 use Rattle.at.proofs.RoundTrip.{accepted, read-accepted}
 use Rattle.command.specs.Command.{reply}
@@ -68,6 +69,13 @@ foreseen-line b g line r e =
 pub fits-line : (line : List ℕ) (r : Answer) → r ≡ lineAnswer (readLine line) → refused r ≡ false → length line ≤ 96
 fits-line line r e h = by-line line (λ z. absurd (false≢true (sym h ∙ ap refused (e ∙ ap lineAnswer z)))) (λ z. accepted line z .2)
 
+pub accepted-fits : (b line : List ℕ) → refused (answerAt b (types line)) ≡ false → length line ≤ 96
+accepted-fits b line h = go (good b) refl
+  where
+    go : (y : Bool) → good b ≡ y → length line ≤ 96
+    go true g = fits-line line (lineAnswer (readLine line)) refl (ap refused (foreseen-line b g line (lineAnswer (readLine line)) refl) ∙ h)
+    go false g = absurd (false≢true (sym h ∙ ap refused (sym (says-bad b (typed (readLine line)) g .answered))))
+
 -- ---- The ways out
 
 module _ (b a line room : List ℕ) where
@@ -110,3 +118,12 @@ module _ (b a line room : List ℕ) where
         line-done f q x z s t =
             let g : roomy a ≡ true = sym (w .room) ∙ f in
             lined (journal-done b a (types line) long r e h y k w f q x s) (t ∙ rw (eq-eqb (length a) AREA long, goes, g))
+
+-- with room for the answer, what a line promises is what any journaled call does; without, nothing
+-- has changed
+module _ {b a line room : List ℕ} {r : Answer} {x y z : List ℕ} (j : JournalsLine b a line room r x y z) where
+  pub line-journals : heard room ≡ true → Journals b a (types line) r x y
+  line-journals e = record { answered = j .answered ∙ rw e; left = j .left ∙ rw e; kept = j .kept ∙ rw e }
+
+  pub line-stays : heard room ≡ false → (x ≡ b) × (y ≡ a)
+  line-stays e = (j .left ∙ rw e, j .kept ∙ rw e)
