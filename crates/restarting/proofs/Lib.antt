@@ -1,3 +1,4 @@
 pub mod Stepping
 pub mod Recovering
 pub mod Lives
+pub mod Refusals

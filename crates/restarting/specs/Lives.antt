@@ -2,7 +2,7 @@
 -- power at any byte and restarts, by the calls' own promises. And what is promised of it. Assumes
 -- nothing.
 use mathlib.Core.Path.{_≡_}
-use mathlib.Core.Bool.{Bool, true, cond, not, _&&_}
+use mathlib.Core.Bool.{Bool, true, false, cond, not, _&&_}
 use mathlib.Core.List.{List, [], _∷_, _++_, map}
 use Prim.Native.Nat.{ℕ, _<_}
 use lib.Dec.{ltb}
@@ -10,6 +10,7 @@ use lib.ListN.{length, replicate}
 use Rattle.rules.specs.declared.Answer.{Answer}
 use Rattle.rules.specs.declared.Event.{Event}
 use Rattle.rules.specs.Calls.{answer}
+use Rattle.rules.specs.Rules.{refused}
 use Rattle.buffer.specs.Places.{SIZE}
 use Rattle.clock.specs.Call.{callAfter}
 use Rattle.image.specs.Image.{Words}
@@ -18,6 +19,11 @@ use Rattle.journal.specs.Area.{AREA, slots, free, CutAppend, Dips}
 use Rattle.records.specs.Records.{Noted, times, types, argumentsOf, callOf}
 use Rattle.keeping.specs.Keeping.{answerAt, recordAt, appends, appended, heard, Journals, JournalsLine}
 use Rattle.restarting.specs.Restarting.{RestartSays}
+
+-- the bytes r are the record that the gate writes of a call at the buffer b, which accepts it; x is
+-- the buffer after that call
+pub data Wrote (b r : List ℕ) : List ℕ → Type 0 where
+  wrote : (n : Noted) → refused (answerAt b n) ≡ false → r ≡ recordAt b n → Wrote b r (callAfter b (callOf n))
 
 -- what C's types say of a call: its numbers have 32 bits; a line is any bytes
 abbrev pub Sized : Noted → Type 0

@@ -24,7 +24,7 @@ use Rattle.rules.proofs.Reached.{waits-reached, stays-unreached}
 
 module _ (g : State) (past : List Entry) where
   -- a limit's number, and the list that it counts: its request's permit goes there
-  limit-number : {q n L : ℕ} {k : Kind} → Limited g past q n L k → (11 ≤ n) × (n ≤ 18)
+  pub limit-number : {q n L : ℕ} {k : Kind} → Limited g past q n L k → (11 ≤ n) × (n ≤ 18)
   limit-number (N1 p e) = omega arith
   limit-number (F1 p e m) = omega arith
   limit-number (F2 p e m) = omega arith
