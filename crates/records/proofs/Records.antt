@@ -77,7 +77,7 @@ letter-low (outcome s (rejected c d k)) = lit< tt
 letter-low dropped = lit< tt
 letter-low tick = lit< tt
 
-numbers-few : (t : ℕ) (e : Event) → length (t ∷ argumentsOf e) ≤ 5
+pub numbers-few : (t : ℕ) (e : Event) → length (t ∷ argumentsOf e) ≤ 5
 numbers-few t (ask q) = omega arith
 numbers-few t (outcome s granted) = omega arith
 numbers-few t (outcome s silent) = omega arith
@@ -109,7 +109,7 @@ encoded-last (types l) a f = packed-last letterA (imageOf (length l ∷ []) ++ l
 -- ---- THE ROUND TRIP
 
 -- the call of an event's letter and numbers is the event's
-letter-many : (t : ℕ) (e : Event) → howMany (letterOf e) ≡ length (t ∷ argumentsOf e)
+pub letter-many : (t : ℕ) (e : Event) → howMany (letterOf e) ≡ length (t ∷ argumentsOf e)
 unfolding howMany
 letter-many t (ask q) = refl
 letter-many t (outcome s granted) = refl
@@ -118,7 +118,7 @@ letter-many t (outcome s (rejected c d k)) = refl
 letter-many t dropped = refl
 letter-many t tick = refl
 
-letter-event : (t : ℕ) (e : Event) → eventOf (letterOf e) (t ∷ argumentsOf e) ≡ e
+pub letter-event : (t : ℕ) (e : Event) → eventOf (letterOf e) (t ∷ argumentsOf e) ≡ e
 unfolding eventOf
 letter-event t (ask q) = refl
 letter-event t (outcome s granted) = refl
@@ -127,7 +127,7 @@ letter-event t (outcome s (rejected c d k)) = refl
 letter-event t dropped = refl
 letter-event t tick = refl
 
-letter-other : (e : Event) → letterOf e ≢ letterA
+pub letter-other : (e : Event) → letterOf e ≢ letterA
 letter-other (ask q) z = absurd (omega arith)
 letter-other (outcome s granted) z = absurd (omega arith)
 letter-other (outcome s silent) z = absurd (omega arith)
@@ -162,9 +162,9 @@ parsed-back (types l) a f =
 -- ---- A letter and its numbers
 
 -- the timed call of a letter and the numbers v has that letter and those numbers
-record Spells (x : ℕ) (v : List ℕ) : Type 0 where
-  letter : letterOf (eventOf x v) ≡ x
-  numbers : getD v 0 0 ∷ argumentsOf (eventOf x v) ≡ v
+pub record Spells (x : ℕ) (v : List ℕ) : Type 0 where
+  pub letter : letterOf (eventOf x v) ≡ x
+  pub numbers : getD v 0 0 ∷ argumentsOf (eventOf x v) ≡ v
 
 spells-1 : (x : ℕ) → ((t : ℕ) → Spells x (t ∷ [])) → (v : List ℕ) → length v ≡ 1 → Spells x v
 spells-1 x s [] e = absurd (omega arith)
@@ -195,7 +195,7 @@ module _ (x : ℕ) (v : List ℕ) (many : length v ≡ howMany x) (begins : howM
       go true e = let q : x ≡ y = eqb-true x y e in rw q (s (many ∙ ap howMany q))
       go false e = other (eqb-false x y e)
 
-  spells : Spells x v
+  pub spells : Spells x v
   unfolding howMany eventOf
   spells =
       known letterQ (spells-2 letterQ (λ t a. record { letter = refl; numbers = refl }) v) (λ q.
