@@ -1,3 +1,4 @@
 pub mod Printing
 pub mod Reading
 pub mod Taking
+pub mod Written

@@ -1,9 +1,9 @@
 -- The line of a record, from what each test of its bytes found. Assumes nothing.
-use mathlib.Core.Path.{_≡_, refl, sym, ap, _∙_}
-use mathlib.Core.Bool.{Bool, true, false, cond, _&&_, false≢true}
+use mathlib.Core.Path.{_≡_, sym, ap, _∙_}
+use mathlib.Core.Bool.{true, false, cond, _&&_, false≢true}
 use mathlib.Core.List.{List, [], _∷_, _++_}
 use mathlib.Core.Logic.{_≢_}
-use mathlib.Core.Option.{Option, none, some}
+use mathlib.Core.Option.{none, some}
 use Prim.Native.Nat.{ℕ, _+_, _-_, _*_, _≤_, _<_}
 use native.Mathlib.Omega.{arith}
 use lib.ListN.{length, getD, take, drop, length-take, length-drop}
@@ -14,7 +14,7 @@ use Rattle.at.specs.Lines.{readLine, starts}
 use Rattle.calls.specs.Letters.{letterA, howMany, eventOf}
 use Rattle.records.specs.Records.{times, types, argumentsOf, packed, encoded, numbersIn, timedBy, lineBy as typedBy, parsed, same, longestLine}
 use Rattle.records.proofs.Records.{Spells, spells, spelled}
-use Rattle.listing.specs.Listing.{fieldsOf, lineOf, endOf, listed, answerFrom, taken, lineBy, lineIn}
+use Rattle.listing.specs.Listing.{fieldsOf, lineOf, endOf, listed, answerFrom, taken, lineIn}
 
 -- ---- A timed call
 

@@ -1,5 +1,5 @@
-// A record of the journal as a trace line with its answer: document 01's letter and fields, then the
-// two numbers that the gate answered, and LF. What is the record of no call has no line.
+// A record of the journal as a trace line with its answer: document 01's letter and fields, then
+// the two numbers that the gate answered, and LF. What is the record of no call has no line.
 use at::Kind;
 use rules::Answer;
 ghost use mathlib.Core.Path.{_≡_};
