@@ -12,7 +12,7 @@ use Rattle.rules.specs.declared.Answer.{Answer}
 use Rattle.image.specs.Image.{imageOf}
 use Rattle.at.specs.Lines.{readLine, starts}
 use Rattle.calls.specs.Letters.{letterA, howMany, eventOf}
-use Rattle.records.specs.Records.{times, types, argumentsOf, packed, encoded, numbersIn, timedBy, lineBy as typedBy, parsed, same, longestLine}
+use Rattle.records.specs.Records.{times, types, argumentsOf, packed, encoded, numbersIn, timedBy, lineBy, parsed, same, longestLine}
 use Rattle.records.proofs.Records.{Spells, spells, spelled}
 use Rattle.listing.specs.Listing.{fieldsOf, lineOf, endOf, listed, answerFrom, taken, lineIn}
 
@@ -66,12 +66,12 @@ module _ (r : List ℕ) (n : ℕ) where
 
 module _ (r : List ℕ) (first : getD r 0 0 ≡ letterA) (n : ℕ) (size : n ≡ getD (numbersIn 1 r) 0 0) where
   pub too-long : longestLine < n → none ≡ lineIn r
-  unfolding lineIn parsed typedBy
+  unfolding lineIn parsed lineBy
   too-long h = rw (eq-eqb (getD r 0 0) letterA first, ← size, lt-leb n longestLine h)
 
   module _ (few : n ≤ longestLine) (l : List ℕ) (part : l ≡ take n (drop 5 r)) (long : length l ≡ n) (a : Answer) (answers : a ≡ answerFrom (5 + n) r) where
     typed-parsed : parsed r ≡ some (types l)
-    unfolding parsed typedBy
+    unfolding parsed lineBy
     typed-parsed = rw (eq-eqb (getD r 0 0) letterA first, ← size, le-leb n longestLine few, ← part)
 
     typed-found : lineIn r ≡ cond (same (encoded (types l) a) r && taken (readLine l)) (some (lineOf (types l) ++ endOf a)) none

@@ -60,16 +60,16 @@ acceptable (times t e) = true
 acceptable (types l) = taken (readLine l)
 
 -- the bytes are the record of the call, with the answer that stands there
-abbrev pub lineFor : List ℕ → Noted → Option (List ℕ)
-lineFor r n = cond (same (encoded n (answerIn n r)) r && acceptable n) (some (listed n (answerIn n r))) none
+abbrev pub lineIf : List ℕ → Noted → Option (List ℕ)
+lineIf r n = cond (same (encoded n (answerIn n r)) r && acceptable n) (some (listed n (answerIn n r))) none
 
-abbrev pub lineBy : List ℕ → Option Noted → Option (List ℕ)
-lineBy r none = none
-lineBy r (some n) = lineFor r n
+abbrev pub ifParsed : List ℕ → Option Noted → Option (List ℕ)
+ifParsed r none = none
+ifParsed r (some n) = lineIf r n
 
 -- the line of a record; none of what is no record of a call
 unfoldable pub lineIn : List ℕ → Option (List ℕ)
-lineIn r = lineBy r (parsed r)
+lineIn r = ifParsed r (parsed r)
 
 -- ---- As the code says it
 
