@@ -1,6 +1,7 @@
-// journal: prints a journal's area, which it reads from standard input, 65,536 bytes. On standard
-// output each whole record is a trace line with its answer, slot by slot. What is no record is told
-// on standard error, with the number of its slot. Of an area of another length nothing is printed.
+// listed: prints a journal, for `./dialchisel journal`. It reads the area from standard input,
+// 65,536 bytes. On standard output each whole record is a trace line with its answer, slot by slot.
+// What is no record is told on standard error, with the number of its slot. Of an area of another
+// length nothing is printed.
 use libc::STDERR_FILENO;
 use libc::STDIN_FILENO;
 use libc::STDOUT_FILENO;

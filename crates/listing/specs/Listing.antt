@@ -55,11 +55,12 @@ taken (nfm-start a s) = true
 taken (intervals l) = true
 taken bad = false
 
+-- what the gate may have accepted: of a timed call that is for the state to say, not for its record
 abbrev pub acceptable : Noted → Bool
 acceptable (times t e) = true
 acceptable (types l) = taken (readLine l)
 
--- the bytes are the record of the call, with the answer that stands there
+-- the line of the call, where the bytes are its record with the answer that stands there
 abbrev pub lineIf : List ℕ → Noted → Option (List ℕ)
 lineIf r n = cond (same (encoded n (answerIn n r)) r && acceptable n) (some (listed n (answerIn n r))) none
 
