@@ -1,6 +1,7 @@
--- What the loops over the area read: a slot's first and last byte, and the bytes from a place on. Assumes nothing.
-use mathlib.Core.Path.{_≡_, refl, sym, ap, _∙_, subst}
-use mathlib.Core.Bool.{Bool, true, false, _&&_, not}
+-- What the loops over the area read: a slot's first and last byte, and the bytes from a place on.
+-- Assumes nothing.
+use mathlib.Core.Path.{_≡_, refl, sym, ap, _∙_}
+use mathlib.Core.Bool.{Bool, true, false, _&&_, cond}
 use mathlib.Core.List.{List, [], _∷_, _++_}
 use Prim.Native.Nat.{ℕ, zero, suc, _+_, _-_, _*_, _≤_, _<_}
 use native.Mathlib.Nat.{zero-mul, sub-zero, suc-sub-suc}
@@ -10,13 +11,12 @@ use lib.ListN.{length, take, drop, getD, length-drop, drop-of-length-le, take-ap
 use lib.Seq.{drop-cons, drop-drop, getD-take, getD-drop, drop-append-seam}
 use lib.Dec.{eqb}
 use borrow.Author.Tests.{eq-eqb, ne-eqb}
-use Rattle.journal.specs.declared.Survey.{Survey}
 use Rattle.journal.specs.declared.Survey.the-variants.{Bad, Clean, Torn}
-use Rattle.journal.specs.Area.{pick, parts, slots, slot, filled, begun, closed, erased, records, rest, begins, past, blank, torn, shape, free, count, mended, survey}
+use Rattle.journal.specs.Area.{parts, slots, slot, begun, closed, erased, records, rest, blank, torn, shape, free, count, survey}
 use Rattle.journal.proofs.Bytes.{parts-length, slots-length, next-place, slots-at, slot-long}
-use Rattle.journal.proofs.Slots.{split, any-default, count-most, free-most, torn-at}
+use Rattle.journal.proofs.Slots.{split, any-default, count-most, free-most}
 
--- All bytes from a place on ------------------------------------------------------------------------------------------------------------
+-- ---- All bytes from a place on
 
 and-assoc : (a b c : Bool) → ((a && b) && c) ≡ (a && (b && c))
 and-assoc true b c = refl
@@ -65,7 +65,7 @@ pub erased-end : (a : List ℕ) (i : ℕ) → length a ≤ i → erased (drop i 
 unfolding erased
 erased-end a i h = rw (drop-of-length-le a h)
 
--- A slot's first and last byte ------------------------------------------------------------------------------------------------------------
+-- ---- A slot's first and last byte
 
 pub slots-end : (a : List ℕ) → drop 512 (slots a) ≡ []
 slots-end a = let q = slots-length a in drop-of-length-le (slots a) {i = 512} (omega arith)
@@ -131,7 +131,7 @@ pub count-end : (a : List ℕ) → length (records (drop 512 (slots a))) ≡ 0
 unfolding records
 count-end a = rw (slots-end a)
 
--- The survey ------------------------------------------------------------------------------------------------------------------------------
+-- ---- The survey
 
 rest-drop : (l : List (List ℕ)) → rest l ≡ drop (length (records l)) l
 rest-drop l = sym (drop-append-seam (records l) (rest l)) ∙ ap (λ (t : List (List ℕ)). drop (length (records l)) t) (split l)
@@ -140,7 +140,7 @@ module _ (a : List ℕ) (long : length a ≡ 65536) (n : ℕ) (e : n ≡ count a
   rest-from : rest (slots a) ≡ drop n (slots a)
   rest-from = rest-drop (slots a) ∙ ap (λ (k : ℕ). drop k (slots a)) (sym e)
 
-  survey-by : (p t : Bool) → shape (slots a) ≡ p → torn (slots a) ≡ t → pick p (pick t (Torn n) (Clean n)) Bad ≡ survey a
+  survey-by : (p t : Bool) → shape (slots a) ≡ p → torn (slots a) ≡ t → cond p (cond t (Torn n) (Clean n)) Bad ≡ survey a
   unfolding survey
   survey-by p t f g = rw (f, g, e)
 

@@ -1,18 +1,14 @@
--- The journal's area: 65,536 bytes, 512 slots of 128. What a slot, a record, a torn record and the area's shape are; what a cut leaves.
--- Nothing here knows what a record means.
+-- The journal's area: 65,536 bytes, 512 slots of 128. What a slot, a record, a torn record and the
+-- area's shape are; what a cut leaves. Nothing here knows what a record means.
 use mathlib.Core.Path.{_≡_}
 use mathlib.Core.Bool.{Bool, true, false, cond, _&&_, not}
 use mathlib.Core.List.{List, [], _∷_, _++_}
-use Prim.Native.Nat.{ℕ, zero, suc, _+_, _-_, _*_, _≤_, _<_}
+use Prim.Native.Nat.{ℕ, zero, suc, _+_, _-_, _*_, _≤_}
 use mathlib.Core.Option.{Option, none, some}
 use lib.ListN.{length, take, drop, getD, set, replicate}
 use lib.Dec.{eqb, ltb}
 use Rattle.journal.specs.declared.Survey.{Survey}
 use Rattle.journal.specs.declared.Survey.the-variants.{Bad, Clean, Torn}
-
-abbrev pub pick {ℓ} : {A : Type ℓ} → Bool → A → A → A
-pick true x y = x
-pick false x y = y
 
 -- the area's bytes, and its slots
 abbrev pub AREA : ℕ
@@ -21,7 +17,7 @@ AREA = 65536
 abbrev pub SLOTS : ℕ
 SLOTS = 512
 
--- Slots ------------------------------------------------------------------------------------------------------------
+-- ---- Slots
 
 -- n parts of w bytes
 unfoldable pub parts : ℕ → ℕ → List ℕ → List (List ℕ)
@@ -40,7 +36,7 @@ slot a i = take 128 (drop (i * 128) a)
 abbrev pub put : List ℕ → ℕ → List ℕ → List ℕ
 put a i x = take (i * 128) a ++ (x ++ drop (i * 128 + 128) a)
 
--- What a cut leaves ------------------------------------------------------------------------------------------------
+-- ---- What a cut leaves
 
 -- the area with the record's first k bytes in place in slot i
 unfoldable pub written : List ℕ → ℕ → List ℕ → ℕ → List ℕ
@@ -50,7 +46,8 @@ written a i r k = put a i (take k r ++ drop k (slot a i))
 unfoldable pub filled : List ℕ → ℕ → ℕ → List ℕ
 filled a i k = put a i (take (128 - k) (slot a i) ++ replicate k 255)
 
--- what a cut of an append leaves, and a cut of a filling: after some number of stores, none and all among them
+-- what a cut of an append leaves, and a cut of a filling: after some number of stores, none and all
+-- among them
 pub record CutAppend (old : List ℕ) (i : ℕ) (r : List ℕ) (a : List ℕ) : Type 0 where
   pub stores : ℕ
   pub most : stores ≤ 128
@@ -61,7 +58,7 @@ pub record CutFill (old : List ℕ) (i : ℕ) (a : List ℕ) : Type 0 where
   pub most : stores ≤ 128
   pub left : a ≡ filled old i stores
 
--- Kinds of slots; a byte that is missing reads as erased ---------------------------------------------------------------
+-- ---- Kinds of slots; a byte that is missing reads as erased
 
 -- a record begins there: its first byte is not 255
 unfoldable pub begun : List ℕ → Bool
@@ -86,17 +83,17 @@ pub record Record (r : List ℕ) : Type 0 where
   pub first : getD r 0 0 ≡ 255 → ⊥
   pub last : getD r 127 0 ≡ 0
 
--- The area's shape: whole records, at most one torn, then 255s -----------------------------------------------------------
+-- ---- The area's shape: whole records, at most one torn, then 255s
 
 -- the whole records at the front
 unfoldable pub records : List (List ℕ) → List (List ℕ)
 records [] = []
-records (s ∷ l) = pick (whole s) (s ∷ records l) []
+records (s ∷ l) = cond (whole s) (s ∷ records l) []
 
 -- what stands behind them
 unfoldable pub rest : List (List ℕ) → List (List ℕ)
 rest [] = []
-rest (s ∷ l) = pick (whole s) (rest l) (s ∷ l)
+rest (s ∷ l) = cond (whole s) (rest l) (s ∷ l)
 
 -- a record begins in the first slot (behind the whole records: a torn one)
 abbrev pub begins : List (List ℕ) → Bool
@@ -105,7 +102,7 @@ begins (s ∷ l) = begun s
 
 abbrev pub past : List (List ℕ) → List (List ℕ)
 past [] = []
-past (s ∷ l) = pick (begun s) l (s ∷ l)
+past (s ∷ l) = cond (begun s) l (s ∷ l)
 
 unfoldable pub blank : List (List ℕ) → Bool
 blank [] = true
@@ -122,9 +119,10 @@ shape l = blank (past (rest l))
 -- the first slot that begins with 255; as many as there are slots where none does
 unfoldable pub free : List (List ℕ) → ℕ
 free [] = zero
-free (s ∷ l) = pick (begun s) (suc (free l)) zero
+free (s ∷ l) = cond (begun s) (suc (free l)) zero
 
--- a record appended to the first slot that begins with 255: yes, and the area with it; no where there is none, and the area stays
+-- a record appended to the first slot that begins with 255: yes, and the area with it; no where
+-- there is none, and the area stays
 pub record Appends (a rec : List ℕ) (yes : Bool) (y : List ℕ) : Type 0 where
   pub room : yes ≡ ltb (free (slots a)) 512
   pub kept : y ≡ cond (ltb (free (slots a)) 512) (written a (free (slots a)) rec 128) a
@@ -133,11 +131,11 @@ pub record Appends (a rec : List ℕ) (yes : Bool) (y : List ℕ) : Type 0 where
 abbrev pub count : List ℕ → ℕ
 count a = length (records (slots a))
 
--- Restart, of the area -------------------------------------------------------------------------------------------------
+-- ---- Restart, of the area
 
 -- the torn record's slot is filled
 unfoldable pub mended : List ℕ → List ℕ
-mended a = pick (torn (slots a)) (filled a (count a) 128) a
+mended a = cond (torn (slots a)) (filled a (count a) 128) a
 
 -- from a to b by restarts that were cut in their filling, as often as may be
 pub data Dips (a : List ℕ) : List ℕ → Type 0 where
@@ -146,11 +144,12 @@ pub data Dips (a : List ℕ) : List ℕ → Type 0 where
 
 -- what a look at the area finds
 unfoldable pub survey : List ℕ → Survey
-survey a = pick (shape (slots a)) (pick (torn (slots a)) (Torn (count a)) (Clean (count a))) Bad
+survey a = cond (shape (slots a)) (cond (torn (slots a)) (Torn (count a)) (Clean (count a))) Bad
 
--- Restart, with any meaning of records -----------------------------------------------------------------------------------
+-- ---- Restart, with any meaning of records
 
--- what restart finds in an area: it has the length and the shape, its whole records are l, and restart leaves the area b
+-- what restart finds in an area: it has the length and the shape, its whole records are l, and
+-- restart leaves the area b
 pub record Found (a : List ℕ) (l : List (List ℕ)) (b : List ℕ) : Type 0 where
   pub long : length a ≡ 65536
   pub shaped : shape (slots a) ≡ true
@@ -177,7 +176,7 @@ ending none b = refused
 ending (some s) b = done s b
 
 unfoldable pub restart : {S : Type 0} → (S → List ℕ → Option S) → S → List ℕ → Restarted S
-restart step image a = pick (shape (slots a)) (ending (replay step image (records (slots a))) (mended a)) refused
+restart step image a = cond (shape (slots a)) (ending (replay step image (records (slots a))) (mended a)) refused
 
 -- an area that an append may go to, or a restart has left
 pub record Good (a : List ℕ) : Type 0 where
@@ -185,7 +184,7 @@ pub record Good (a : List ℕ) : Type 0 where
   pub shaped : shape (slots a) ≡ true
   pub untorn : torn (slots a) ≡ false
 
--- The stores, one by one -------------------------------------------------------------------------------------------------------
+-- ---- The stores, one by one
 
 pub record Store : Type 0 where
   pub place : ℕ

@@ -2,7 +2,7 @@
 // front to back over bytes of 255, a byte with each store, and its slot is filled again from the
 // back. Nothing here knows what a record means.
 ghost use mathlib.Core.Path.{_≡_};
-ghost use mathlib.Core.Bool.{Bool, true, false};
+ghost use mathlib.Core.Bool.{true, false};
 ghost use Prim.Native.Nat.{_+_, _*_, _-_, _≤_, _<_};
 ghost use mathlib.Core.List.{_++_};
 ghost use lib.ListN.{length, take, drop, set, replicate};

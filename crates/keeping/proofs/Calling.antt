@@ -1,24 +1,23 @@
 -- The ways out of a journaled call, and that each allows one result only. Assumes nothing.
-use mathlib.Core.Path.{_≡_, refl, sym, ap, _∙_}
-use mathlib.Core.Bool.{Bool, true, false, cond, not, _&&_, false≢true}
+use mathlib.Core.Path.{_≡_, sym, ap, _∙_}
+use mathlib.Core.Bool.{Bool, true, false}
 use mathlib.Core.List.{List}
 use mathlib.Core.Logic.{_≢_}
-use Prim.Native.Nat.{ℕ, _≤_, _<_}
+use Prim.Native.Nat.{ℕ}
 use native.Mathlib.Omega.{arith}
-use lib.Dec.{eqb, ltb, leb}
 use lib.ListN.{length, replicate}
-use borrow.Author.Tests.{eq-eqb, ne-eqb, lt-ltb, le-ltb, le-leb, lt-leb, not-true, not-false}
+use borrow.Author.Tests.{eq-eqb, ne-eqb, lt-ltb, le-ltb}
 use Rattle.rules.specs.declared.Answer.{Answer}
-use Rattle.rules.specs.Calls.{answer, typed}
+use Rattle.rules.specs.Calls.{answer}
 use Rattle.rules.specs.Rules.{refused, ruling}
 use Rattle.buffer.specs.Layout.{view}
 use Rattle.buffer.specs.Good.{good}
-use Rattle.clock.specs.Call.{callAnswer, callAfter, Says}
+use Rattle.clock.specs.Call.{Says}
 use Rattle.clock.proofs.Saying.{answer-is}
 use Rattle.journal.specs.Area.{AREA, SLOTS, slots, free, written, Appends}
 use Rattle.journal.proofs.Reading.{free-le}
-use Rattle.records.specs.Records.{Noted, types, callOf, encoded}
-use Rattle.keeping.specs.Keeping.{answerAt, recordAt, sized, roomy, appends, appended, journalAnswer, Journals, heard, JournalsLine, EraseSays, nextOf}
+use Rattle.records.specs.Records.{Noted, callOf, encoded}
+use Rattle.keeping.specs.Keeping.{answerAt, sized, roomy, appends, journalAnswer, Journals, JournalsLine, EraseSays, nextOf}
 
 -- ---- One result only
 

@@ -1,5 +1,5 @@
--- Calls with a journal: what is appended, and what each call promises of the state, the area and the
--- room that it is lent, whatever they hold. Assumes nothing.
+-- Calls with a journal: what is appended, and what each call promises of the state, the area and
+-- the room that it is lent, whatever they hold. Assumes nothing.
 use mathlib.Core.Path.{_≡_}
 use mathlib.Core.Bool.{Bool, cond, not, _&&_}
 use mathlib.Core.List.{List}
@@ -45,8 +45,8 @@ appended b a n = written a (free (slots a)) (recordAt b n) 128
 
 -- ---- A request, an outcome, the clock call
 
--- 1 for the area's length; then the plain call's refusals; then 6 where no slot begins with 255; then
--- the plain call's answer
+-- 1 for the area's length; then the plain call's refusals; then 6 where no slot begins with 255;
+-- then the plain call's answer
 unfoldable pub journalAnswer : (b a : List ℕ) → Noted → Answer
 journalAnswer b a n = cond (sized a) (cond (not (refused (answerAt b n)) && not (roomy a)) (answer 6 0) (answerAt b n)) (answer 1 0)
 
@@ -63,8 +63,8 @@ pub record Journals (b a : List ℕ) (n : Noted) (r : Answer) (x y : List ℕ) :
 abbrev pub heard : List ℕ → Bool
 heard room = leb 16 (length room)
 
--- the line, with the buffer b, the area a and the room, gives r, leaves the buffer x, the area y and
--- the room z
+-- the line, with the buffer b, the area a and the room, gives r, leaves the buffer x, the area y
+-- and the room z
 pub record JournalsLine (b a line room : List ℕ) (r : Answer) (x y z : List ℕ) : Type 0 where
   pub answered : r ≡ cond (heard room) (journalAnswer b a (types line)) (answer 1 0)
   pub left : x ≡ cond (heard room && appends b a (types line)) (callAfter b (typed (readLine line))) b

@@ -1,6 +1,6 @@
 // Requests, outcomes and the clock call with a journal: checked and decided by reading alone, then
-// appended with their answer, then carried out, then answered. The area of the journal is lent after
-// the state. A refusal changes nothing, nor does 6, where the journal is full.
+// appended with their answer, then carried out, then answered. The area of the journal is lent
+// after the state. A refusal changes nothing, nor does 6, where the journal is full.
 use rules::Answer;
 ghost use mathlib.Core.Path.{_≡_};
 ghost use mathlib.Core.Bool.{true};
@@ -15,7 +15,8 @@ ghost use Rattle.calls.specs.Letters.{howMany, eventOf};
 ghost use Rattle.records.specs.Records.{times, encoded};
 ghost use Rattle.keeping.specs.Keeping.{Journals, EraseSays, nextOf};
 
-// Appends the timed call of a letter and its numbers, with its answer. False where there is no room.
+// Appends the timed call of a letter and its numbers, with its answer. False where there is no
+// room.
 fn keep(area: &mut [u8], x: u8, v: &[u32], a: Answer) -> bool
     requires { ⌜ length (now area) ≡ AREA ⌝ }
     requires { ⌜ (length (now v) ≡ howMany x) × (1 ≤ length (now v)) ⌝ }

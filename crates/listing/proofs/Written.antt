@@ -1,15 +1,14 @@
 -- What is written as a record is printed, with the answer that was written. Assumes nothing.
-use mathlib.Core.Path.{_≡_, refl, sym, ap, _∙_}
+use mathlib.Core.Path.{_≡_}
 use mathlib.Core.Bool.{true}
-use mathlib.Core.List.{List, [], _∷_, _++_, append-assoc}
+use mathlib.Core.List.{List, [], _∷_, _++_}
 use mathlib.Core.Option.{some}
-use Prim.Native.Nat.{ℕ, _+_, _-_, _*_, _≤_}
+use Prim.Native.Nat.{ℕ, _+_, _-_, _*_}
 use native.Mathlib.Omega.{arith}
-use lib.ListN.{length, getD, take, drop, replicate, length-append}
+use lib.ListN.{length, take, drop, replicate, length-append}
 use lib.Seq.{take-at, drop-at}
 use Rattle.rules.specs.declared.Answer.{Answer}
-use Rattle.rules.specs.Calls.{answer}
-use Rattle.image.specs.Image.{imageOf, numbersOf, Words}
+use Rattle.image.specs.Image.{imageOf, Words}
 use Rattle.image.proofs.Returns.{returns, image-length}
 use Rattle.calls.specs.Letters.{letterA}
 use Rattle.records.specs.Records.{Noted, times, types, letterOf, argumentsOf, packed, encoded, Fits}

@@ -4,8 +4,6 @@ use mathlib.Core.Bool.{Bool, true, false, cond, false≢true}
 use mathlib.Core.List.{List}
 use mathlib.Core.Logic.{_≢_}
 use Prim.Native.Nat.{ℕ, _≤_, _<_}
-use native.Mathlib.Omega.{arith}
-use lib.Dec.{leb}
 use lib.ListN.{length}
 use borrow.Author.Tests.{eq-eqb, ne-eqb, le-leb, lt-leb}
 use Rattle.rules.specs.declared.Answer.{Answer}
@@ -21,7 +19,7 @@ use Rattle.at.proofs.RoundTrip.{accepted, read-accepted}
 use Rattle.command.specs.Command.{reply}
 use Rattle.journal.specs.Area.{AREA, Appends}
 use Rattle.records.specs.Records.{types, encoded}
-use Rattle.keeping.specs.Keeping.{answerAt, sized, roomy, appends, Journals, heard, JournalsLine}
+use Rattle.keeping.specs.Keeping.{answerAt, roomy, appends, Journals, heard, JournalsLine}
 use Rattle.keeping.proofs.Calling.{foreseen, journal-short, journal-refused, journal-full, journal-done}
 use Rattle.noting.specs.Noting.{lineAnswer}
 

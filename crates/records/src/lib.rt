@@ -1,8 +1,8 @@
-// A call and its answer as a record of 128 bytes, written and read. A timed call is a letter and its
-// numbers, as `calls` has them; an AT line is its bytes. Nothing here knows what a call does.
+// A call and its answer as a record of 128 bytes, written and read. A timed call is a letter and
+// its numbers, as `calls` has them; an AT line is its bytes. Nothing here knows what a call does.
 use rules::Answer;
 ghost use mathlib.Core.Path.{_≡_};
-ghost use mathlib.Core.List.{[], _∷_, _++_};
+ghost use mathlib.Core.List.{_++_};
 ghost use Prim.Native.Nat.{_+_, _*_, _≤_};
 ghost use lib.ListN.{length, take, drop, replicate};
 ghost use Rattle.image.specs.Image.{imageOf};

@@ -1,16 +1,16 @@
--- THE THEOREM: whatever life a state with a journal has had, calls, cuts at any byte and restarts, its
--- state is the one after the plain calls of its journal, and restart finds it. So demand 3's record
--- runs across restarts. Assumes nothing.
-use mathlib.Core.Path.{_≡_, refl, sym, ap, _∙_, subst}
-use mathlib.Core.Bool.{Bool, true, false, cond, not, _&&_, false≢true}
-use mathlib.Core.List.{List, [], _∷_, _++_, map, append-nil, append-assoc}
-use Prim.Native.Nat.{ℕ, _≤_, _<_}
+-- THE THEOREM: whatever life a state with a journal has had, calls, cuts at any byte and restarts,
+-- its state is the one after the plain calls of its journal, and restart finds it. So demand 3's
+-- record runs across restarts. Assumes nothing.
+use mathlib.Core.Path.{_≡_, refl, ap, _∙_}
+use mathlib.Core.Bool.{Bool, true, false, not, _&&_, false≢true, cond}
+use mathlib.Core.List.{List, [], _∷_, _++_, map, append-nil}
+use Prim.Native.Nat.{ℕ, _<_}
 use native.Mathlib.Omega.{arith}
-use lib.Dec.{eqb, ltb}
-use lib.ListN.{length, replicate, length-replicate}
-use borrow.Author.Tests.{eq-eqb, eqb-true, ltb-true, lt-ltb, le-ltb}
+use lib.Dec.{ltb}
+use lib.ListN.{length, length-replicate}
+use borrow.Author.Tests.{eq-eqb, ltb-true, lt-ltb, le-ltb}
 use Rattle.rules.specs.declared.Answer.{Answer}
-use Rattle.rules.specs.Calls.{Call, typed, answer}
+use Rattle.rules.specs.Calls.{Call, answer}
 use Rattle.rules.specs.Rules.{refused}
 use Rattle.buffer.specs.Places.{SIZE}
 use Rattle.buffer.specs.Layout.{view}
@@ -20,12 +20,12 @@ use Rattle.opening.specs.Open.{Order, Typed, givenBy, OpenSays}
 use Rattle.gate.specs.History.{Doing, calls, called as calling, Run, done as ends, then, begun as from, since}
 use Rattle.gate.specs.Demands.{OnTheBuffer}
 use Rattle.gate.proofs.Demand3.{demand-3-on-the-buffer, demand-3-from-a-good-buffer}
-use Rattle.journal.specs.Area.{AREA, SLOTS, pick, slots, free, written, erased, CutAppend, Dips, done, restart}
+use Rattle.journal.specs.Area.{AREA, SLOTS, slots, free, CutAppend, Dips, done, restart}
 use Rattle.journal.proofs.Slots.{all-erased}
 use Rattle.journal.proofs.Theorems.{dips, cut-append}
 use Rattle.journal.proofs.History.{Live, begin, taken, live, restarted, cut-now}
 use Rattle.records.specs.Records.{Noted, times, types, callOf, Fits}
-use Rattle.keeping.specs.Keeping.{answerAt, recordAt, sized, roomy, appends, appended, journalAnswer, heard, Journals, JournalsLine}
+use Rattle.keeping.specs.Keeping.{answerAt, recordAt, sized, roomy, appends, appended, journalAnswer, heard, Journals}
 use Rattle.noting.proofs.Lining.{accepted-fits, line-journals, line-stays}
 use Rattle.restarting.specs.Restarting.{step, judged, RestartSays}
 use Rattle.restarting.specs.Lives.{Sized, plus, Lived, begun, called, obeyed, cut, again, plain, Finds, Stands}
@@ -81,7 +81,7 @@ module _ (image : List ℕ) (ok : good image ≡ true) where
     went = taken l (record-of s n f) (g .room) (step-call s n f (g .accepted))
 
     module _ {b c : List ℕ} (k : CutAppend a (free (slots a)) (recordAt s n) b) (d : Dips b c) where
-      restart-cut : restart step image c ≡ pick (ltb (k .stores) 128) (done s a) (done (callAfter s (callOf n)) (appended s a n))
+      restart-cut : restart step image c ≡ cond (ltb (k .stores) 128) (done s a) (done (callAfter s (callOf n)) (appended s a n))
       restart-cut = cut-now step image l (record-of s n f) (g .room) (step-call s n f (g .accepted)) k d
 
       long-cut : length c ≡ AREA
@@ -165,8 +165,8 @@ run-on : {b c x : List ℕ} {ds es : List Doing} {rs qs : List Answer} → Run b
 run-on ends q = q
 run-on (then d p) q = then d (run-on p q)
 
--- a buffer of any contents is opened by o, answered 0, and anything is done with it; what it is then is
--- the image of a life. The record runs from that opening on, across all restarts
+-- a buffer of any contents is opened by o, answered 0, and anything is done with it; what it is
+-- then is the image of a life. The record runs from that opening on, across all restarts
 pub demand-3-across-restarts : (b : List ℕ) (o : Order) (r : Answer) (y : List ℕ) → Typed o → OpenSays b o r y → r .number ≡ 0
     → (ds : List Doing) (qs : List Answer) (image : List ℕ) → Run y ds qs image
     → (s a : List ℕ) (ns : List Noted) (rs : List Answer) → Lived image s a ns rs

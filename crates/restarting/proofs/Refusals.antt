@@ -1,14 +1,12 @@
--- What is refused changes nothing, 6 and 7 too; what is accepted is in the journal; a record's meaning
--- is the call that the gate writes so; and restart allows one result only. Assumes nothing.
+-- What is refused changes nothing, 6 and 7 too; what is accepted is in the journal; a record's
+-- meaning is the call that the gate writes so; and restart allows one result only. Assumes nothing.
 use mathlib.Core.Path.{_≡_, refl, sym, ap, _∙_, subst}
 use mathlib.Core.Bool.{Bool, true, false, cond, not, _&&_, false≢true}
 use mathlib.Core.List.{List, []}
 use mathlib.Core.Logic.{_≢_}
 use mathlib.Core.Option.{Option, none, some}
-use Prim.Native.Nat.{ℕ, _≤_, _<_}
+use Prim.Native.Nat.{ℕ}
 use native.Mathlib.Omega.{arith}
-use lib.Dec.{eqb, ltb}
-use lib.ListN.{length}
 use Rattle.rules.specs.declared.Answer.{Answer}
 use Rattle.rules.specs.Calls.{Call, answer, Entry}
 use Rattle.rules.specs.State.{State}
@@ -16,7 +14,6 @@ use Rattle.rules.specs.Rules.{refused}
 use Rattle.rules.specs.Direct.{Given, permitted, on-grant, on-drop, on-tick, on-line, out-of-range, out-of-time, wrong-standing, not-as-above, held, blocked, ordered, backed-off, in-its-place, other-action}
 use Rattle.rules.proofs.Checks.{action-low}
 use Rattle.rules.proofs.Direct.{limit-number}
-use Rattle.buffer.specs.Layout.{view}
 use Rattle.buffer.specs.Good.{good}
 use Rattle.clock.specs.Call.{callAnswer, callAfter}
 use Rattle.clock.proofs.Saying.{says-bad}
@@ -26,7 +23,7 @@ use Rattle.journal.specs.Area.{Restarted, refused as none-found, done}
 use Rattle.records.specs.Records.{Noted, callOf, parsed, same}
 use Rattle.records.proofs.Records.{same-eq}
 use Rattle.keeping.specs.Keeping.{answerAt, recordAt, sized, roomy, appends, journalAnswer, Journals}
-use Rattle.restarting.specs.Restarting.{writes, stepBy, step, fits, judged, answerOf, areaOf, stateOf, RestartSays}
+use Rattle.restarting.specs.Restarting.{writes, stepBy, step, fits, judged, RestartSays}
 use Rattle.restarting.specs.Lives.{Wrote, wrote}
 
 -- ---- No plain call answers 6

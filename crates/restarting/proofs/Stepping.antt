@@ -1,5 +1,5 @@
--- A record's meaning at a buffer: of the call's own record it is the call, of any other there is none.
--- Assumes nothing.
+-- A record's meaning at a buffer: of the call's own record it is the call, of any other there is
+-- none. Assumes nothing.
 use mathlib.Core.Path.{_≡_, refl, sym, ap, _∙_}
 use mathlib.Core.Bool.{Bool, true, false, cond, not, _&&_, false≢true}
 use mathlib.Core.List.{List, [], _∷_}
@@ -15,13 +15,13 @@ use Rattle.rules.specs.declared.Event.{Event}
 use Rattle.rules.specs.Calls.{timed}
 use Rattle.rules.specs.Rules.{refused}
 use Rattle.buffer.specs.Good.{good}
-use Rattle.clock.specs.Call.{callAnswer, callAfter, Says}
+use Rattle.clock.specs.Call.{callAfter, Says}
 use Rattle.clock.proofs.Saying.{good-after}
 use Rattle.image.specs.Image.{imageOf}
 use Rattle.calls.specs.Letters.{letterA, howMany, eventOf}
 use Rattle.calls.proofs.Letters.{many-few}
 use Rattle.records.specs.Records.{Noted, times, types, callOf, packed, encoded, Fits, numbersIn, timedBy, lineBy, parsed, same}
-use Rattle.records.proofs.Records.{same-eq, same-self, encoded-long, encoded-first, encoded-last, parsed-back, spelled}
+use Rattle.records.proofs.Records.{same-self, encoded-long, encoded-first, encoded-last, parsed-back, spelled}
 use Rattle.journal.specs.Area.{Record}
 use Rattle.keeping.specs.Keeping.{answerAt, recordAt}
 use Rattle.restarting.specs.Restarting.{writes, stepBy, step, Answers}

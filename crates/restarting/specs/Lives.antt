@@ -35,8 +35,8 @@ abbrev pub plus : {A : Type 0} → List A → Bool → A → List A
 plus l b x = l ++ cond b (x ∷ []) []
 
 -- The state s and the area a after a life that began with the image, and the calls that are in the
--- journal, the oldest first, with their answers. Premises of §8 are its lines: after a cut nothing is
--- called before restart has come to its end, and restart is given the image that the journal was
+-- journal, the oldest first, with their answers. Premises of §8 are its lines: after a cut nothing
+-- is called before restart has come to its end, and restart is given the image that the journal was
 -- begun with
 pub data Lived (image : List ℕ) : (s a : List ℕ) → List Noted → List Answer → Type 0 where
   -- an image and an erased area
@@ -49,9 +49,9 @@ pub data Lived (image : List ℕ) : (s a : List ℕ) → List Noted → List Ans
   obeyed : {s a x y z : List ℕ} {ns : List Noted} {rs : List Answer} (line room : List ℕ) (r : Answer) → Lived image s a ns rs
       → JournalsLine s a line room r x y z
       → Lived image x y (plus ns (heard room && appends s a (types line)) (types line)) (plus rs (heard room && appends s a (types line)) r)
-  -- the power was cut in a call: after some number of the 128 stores of its append, none and all among
-  -- them. Restart was cut in its filling, as often as may be. Then it came to its end, on a state of
-  -- any contents
+  -- the power was cut in a call: after some number of the 128 stores of its append, none and all
+  -- among them. Restart was cut in its filling, as often as may be. Then it came to its end, on a
+  -- state of any contents
   cut : {s a b c z x y : List ℕ} {ns : List Noted} {rs : List Answer} (n : Noted) (r : Answer) → Lived image s a ns rs
       → Sized n → appends s a n ≡ true → (k : CutAppend a (free (slots a)) (recordAt s n) b) → Dips b c
       → length z ≡ SIZE → RestartSays image c z r y x
@@ -70,8 +70,8 @@ pub record Finds (image c : List ℕ) (x y : List ℕ) : Type 0 where
       → (r ≡ answer 0 0) × (x′ ≡ x) × (y′ ≡ y)
 
 pub record Stands (image s a : List ℕ) (ns : List Noted) (rs : List Answer) : Type 0 where
-  -- the state is what the plain calls leave, from the image on: each call of the journal once, in its
-  -- order, with the answer that it was given
+  -- the state is what the plain calls leave, from the image on: each call of the journal once, in
+  -- its order, with the answer that it was given
   pub run : Run image (map plain ns) rs s
   -- restart finds that state, and leaves the area as it is
   pub restarts : Finds image a s a

@@ -1,5 +1,5 @@
--- Restart: what a record means at a buffer, and what restart promises of the area and the state that
--- it is lent, whatever they and the image hold. Assumes nothing.
+-- Restart: what a record means at a buffer, and what restart promises of the area and the state
+-- that it is lent, whatever they and the image hold. Assumes nothing.
 use mathlib.Core.Path.{_≡_}
 use mathlib.Core.Bool.{Bool, true, false, cond, not, _&&_}
 use mathlib.Core.List.{List}
@@ -54,7 +54,8 @@ fits a s = sized a && eqb (length s) SIZE
 unfoldable pub judged : (i a s : List ℕ) → J.Restarted (List ℕ)
 judged i a s = cond (fits a s && good i) (J.restart step i a) J.refused
 
--- restart from the image i with the area a and the state s gives r, leaves the area y and the state x
+-- restart from the image i with the area a and the state s gives r, leaves the area y and the state
+-- x
 pub record RestartSays (i a s : List ℕ) (r : Answer) (y x : List ℕ) : Type 0 where
   pub answered : r ≡ cond (fits a s) (answerOf (judged i a s)) (answer 1 0)
   pub kept : y ≡ areaOf (judged i a s) a

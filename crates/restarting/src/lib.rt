@@ -1,6 +1,6 @@
-// Restart: the state after an image and the journal that was begun with it. All of it is judged on a
-// copy of the image before anything is written; then a torn record's slot is filled, from the back,
-// and then the state is written.
+// Restart: the state after an image and the journal that was begun with it. All of it is judged on
+// a copy of the image before anything is written; then a torn record's slot is filled, from the
+// back, and then the state is written.
 use buffer::places;
 use journal::Survey;
 use rules::Answer;
@@ -11,8 +11,8 @@ ghost use Prim.Native.Nat.{_≤_};
 ghost use lib.ListN.{length, getD, take, drop};
 ghost use Rattle.buffer.specs.Places.{SIZE};
 ghost use Rattle.buffer.specs.Good.{good};
-ghost use Rattle.calls.specs.Letters.{letterA, howMany, eventOf};
-ghost use Rattle.records.specs.Records.{times, types, longestLine, numbersIn, lineBy, timedBy};
+ghost use Rattle.calls.specs.Letters.{howMany};
+ghost use Rattle.records.specs.Records.{types, longestLine, numbersIn, lineBy, timedBy};
 ghost use Rattle.journal.specs.Area.{AREA, slots, replay, restart};
 ghost use Rattle.restarting.specs.Restarting.{stepBy, step, RestartSays, Answers, Recovers};
 
@@ -155,8 +155,8 @@ fn copy(from: &[u32], to: &mut [u32])
 }
 
 // The state after an image and the journal that was begun with it; what is in `state` does not
-// matter. 1 for the length of the area or the state; 7 for a bad image, a whole record that the gate
-// would not write there, or an area other than whole records, at most one torn, then 255s.
+// matter. 1 for the length of the area or the state; 7 for a bad image, a whole record that the
+// gate would not write there, or an area other than whole records, at most one torn, then 255s.
 pub fn restart(image: &[u32], area: &mut [u8], state: &mut [u32]) -> Answer
     ensures { λ r. ⌜ RestartSays (now (image .entry)) (now (area .entry)) (now (state .entry)) r (now (area .exit)) (now (state .exit)) ⌝ }
 {

@@ -1,39 +1,27 @@
+-- `journal::append` meets its contract. Assumes nothing.
 use Rattle.journal.proofs.Reading.{free-le}
 use Rattle.journal.proofs.Appending.{no-slot, a-slot}
-use Prim.Native.Nat.{ℕ, _≤_, _<_, _+_, _*_, _-_}
-use mathlib.Core.Path.{_≡_, refl, sym, ap, _∙_}
-use mathlib.Core.Logic.{⊎-elim}
-use lib.ListN.{length, getD, take, drop, set, length-set}
+use Prim.Native.Nat.{_-_}
 use native.Mathlib.Omega.{arith}
 use borrow.Author.Needs.{needs}
 use Rattle.journal.proofs.append.Statement.{statement}
 use Rattle.journal.proofs.append.Tie as tie
-use Rattle.journal.proofs.append.Reads as reads
-use Rattle.journal.proofs.append.Lts as lts
-use Rattle.journal.proofs.first_free.Reads as first-free-reads
-use Rattle.journal.proofs.write_first.Reads as write-first-reads
 
--- src/lib.rt:65:9
 first-free-requires : tie.Need-first-free-requires
 first-free-requires c κs = search needs
 
--- src/lib.rt:67:9
 same-length : tie.Need-same-length
 same-length c = search needs
 
--- src/lib.rt:67:9
 returns : tie.Need-returns
 returns c = let a = c .before .before .before .before .before .args in no-slot (a .area .now) (a .rec .now) _ (c .before .first-free .ensures) (c .if1 .taken)
 
--- src/lib.rt:69:5
 write-first-requires : tie.Need-write-first-requires
 write-first-requires c κs = let a = c .before .before .before .before .before .before .args in (c .before .before .before .before .before .before .pre .0, omega (arith, free-le (a .area .now), c .before .before .first-free .ensures, c .before .if1 .left), c .before .before .before .before .before .before .pre .1, omega arith)
 
--- src/lib.rt:61:1
 same-length-2 : tie.Need-same-length-2
 same-length-2 c = search needs
 
--- src/lib.rt:61:1
 returns-2 : tie.Need-returns-2
 returns-2 c = let a = c .before .before .before .before .before .before .before .before .before .args in a-slot (a .area .now) (a .rec .now) _ (c .before .before .before .before .before .first-free .ensures) _ (c .before .before .before .before .if1 .left) (c .before .before .write-first .ensures)
 

@@ -1,32 +1,24 @@
+-- `journal::put` meets its contract. Assumes nothing.
 use lib.Seq.{set-getD}
-use Prim.Native.Nat.{ℕ, _≤_, _<_, _+_, _*_, _-_}
-use mathlib.Core.Path.{_≡_, refl, sym, ap, _∙_}
-use mathlib.Core.Logic.{⊎-elim}
-use lib.ListN.{length, getD, take, drop, set, length-set}
-use native.Mathlib.Omega.{arith}
+use Prim.Native.Nat.{ℕ, _-_}
+use mathlib.Core.Path.{sym, ap, _∙_}
+use lib.ListN.{set}
 use borrow.Author.Needs.{needs}
 use Rattle.journal.proofs.put.Statement.{statement}
 use Rattle.journal.proofs.put.Tie as tie
-use Rattle.journal.proofs.put.Reads as reads
-use Rattle.journal.proofs.put.Lts as lts
 
--- src/lib.rt:44:8
 slice-read-if1 : tie.Need-slice-read-if1
 slice-read-if1 c = search needs
 
--- src/lib.rt:45:9
 returns : tie.Need-returns
 returns c = let a = c .before .before .args in sym (ap (λ (b : ℕ). set (a .part .now) (a .at) b) (sym (c .if1 .taken)) ∙ set-getD (a .part .now) (a .at) 0)
 
--- src/lib.rt:47:5
 slice-write-part : tie.Need-slice-write-part
 slice-write-part c = search needs
 
--- src/lib.rt:40:1
 same-length : tie.Need-same-length
 same-length c = search needs
 
--- src/lib.rt:40:1
 returns-2 : tie.Need-returns-2
 returns-2 c = search needs
 

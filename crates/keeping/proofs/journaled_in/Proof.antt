@@ -1,3 +1,4 @@
+-- `keeping::journaled_in` meets its contract. Assumes nothing.
 use Rattle.keeping.proofs.Calling.{foreseen, journal-refused, journal-full, journal-done}
 use Rattle.records.specs.Records.{Noted, times}
 use Rattle.calls.specs.Letters.{eventOf}
@@ -6,83 +7,58 @@ use Rattle.buffer.specs.Layout.{view}
 use Rattle.rules.specs.Rules.{ruling}
 use Rattle.rules.specs.Calls.{timed}
 use Rattle.rules.specs.declared.Event.{Event}
-use Prim.Native.Nat.{ℕ, _≤_, _<_, _+_, _*_, _-_}
-use mathlib.Core.Path.{_≡_, refl, sym, ap, _∙_}
-use mathlib.Core.Logic.{⊎-elim}
-use lib.ListN.{length, getD, take, drop, set, length-set}
-use native.Mathlib.Omega.{arith}
+use Prim.Native.Nat.{_-_}
+use mathlib.Core.Path.{sym, ap, _∙_}
+use lib.ListN.{getD}
 use borrow.Author.Needs.{needs}
 use Rattle.keeping.proofs.journaled_in.Statement.{statement}
 use Rattle.keeping.proofs.journaled_in.Tie as tie
-use Rattle.keeping.proofs.journaled_in.Reads as reads
-use Rattle.keeping.proofs.journaled_in.Lts as lts
-use Rattle.calls.proofs.event.Reads as event-reads
-use Rattle.clock.proofs.refused.Reads as refused-reads
-use Rattle.events.proofs.happen_in.Reads as happen-in-reads
-use Rattle.keeping.proofs.keep.Reads as keep-reads
-use Rattle.verdicts.proofs.verdict.Reads as verdict-reads
 
--- src/lib.rt:52:38
 shared-slice-read-verdict : tie.Need-shared-slice-read-verdict
 shared-slice-read-verdict c = search needs
 
--- src/lib.rt:52:44
 event-requires : tie.Need-event-requires
 event-requires c κs = search needs
 
--- src/lib.rt:52:9
 verdict-requires : tie.Need-verdict-requires
 verdict-requires c κs = search needs
 
--- src/lib.rt:53:8
 refused-requires : tie.Need-refused-requires
 refused-requires c κs = search needs
 
--- src/lib.rt:54:9
 same-length : tie.Need-same-length
 same-length c = search needs
 
--- src/lib.rt:54:9
 returns : tie.Need-returns
 returns c = let a = c .before .before .before .before .before .before .before .before .before .args in let b = a .state .now in let n : Noted = times (getD (a .v .now) 0 0) (eventOf (a .x) (a .v .now)) in let e = c .before .before .verdict .ensures ∙ ap (λ (w : Event). ruling (view b) (timed (getD (a .v .now) 0 0) w)) (c .before .before .before .event .ensures) in let f = foreseen b (c .before .before .before .before .before .before .before .before .before .pre .1 .0) n _ e in journal-refused b (a .area .now) n (c .before .before .before .before .before .before .before .before .before .pre .1 .1 .0) _ f (sym (c .before .refused .ensures) ∙ c .if1 .taken)
 
--- src/lib.rt:56:9
 keep-requires : tie.Need-keep-requires
 keep-requires c κs = search needs
 
--- src/lib.rt:57:9
 same-length-2 : tie.Need-same-length-2
 same-length-2 c = search needs
 
--- src/lib.rt:57:9
 same-length-3 : tie.Need-same-length-3
 same-length-3 c = search needs
 
--- src/lib.rt:57:9
 returns-2 : tie.Need-returns-2
 returns-2 c = let a = c .before .before .before .before .before .before .before .before .before .before .before .before .before .before .args in let b = a .state .now in let n : Noted = times (getD (a .v .now) 0 0) (eventOf (a .x) (a .v .now)) in let e = c .before .before .before .before .before .before .before .verdict .ensures ∙ ap (λ (w : Event). ruling (view b) (timed (getD (a .v .now) 0 0) w)) (c .before .before .before .before .before .before .before .before .event .ensures) in let f = foreseen b (c .before .before .before .before .before .before .before .before .before .before .before .before .before .before .pre .1 .0) n _ e in journal-full b (a .area .now) n (c .before .before .before .before .before .before .before .before .before .before .before .before .before .before .pre .1 .1 .0) _ f (sym (c .before .before .before .before .before .before .refused .ensures) ∙ c .before .before .before .before .before .if1 .left) _ _ (c .before .before .before .keep .ensures) (not-true _ (c .if2 .taken))
 
--- src/lib.rt:62:30
 shared-slice-read-happen-in : tie.Need-shared-slice-read-happen-in
 shared-slice-read-happen-in c = search needs
 
--- src/lib.rt:62:36
 event-requires-2 : tie.Need-event-requires-2
 event-requires-2 c κs = search needs
 
--- src/lib.rt:62:5
 happen-in-requires : tie.Need-happen-in-requires
 happen-in-requires c κs = search needs
 
--- src/lib.rt:45:1
 same-length-4 : tie.Need-same-length-4
 same-length-4 c = search needs
 
--- src/lib.rt:45:1
 same-length-5 : tie.Need-same-length-5
 same-length-5 c = search needs
 
--- src/lib.rt:45:1
 returns-3 : tie.Need-returns-3
 returns-3 c = let a = c .before .before .before .before .before .before .before .before .before .before .before .before .before .before .before .before .before .before .before .before .args in let b = a .state .now in let n : Noted = times (getD (a .v .now) 0 0) (eventOf (a .x) (a .v .now)) in let e = c .before .before .before .before .before .before .before .before .before .before .before .before .before .verdict .ensures ∙ ap (λ (w : Event). ruling (view b) (timed (getD (a .v .now) 0 0) w)) (c .before .before .before .before .before .before .before .before .before .before .before .before .before .before .event .ensures) in let f = foreseen b (c .before .before .before .before .before .before .before .before .before .before .before .before .before .before .before .before .before .before .before .before .pre .1 .0) n _ e in journal-done b (a .area .now) n (c .before .before .before .before .before .before .before .before .before .before .before .before .before .before .before .before .before .before .before .before .pre .1 .1 .0) _ f (sym (c .before .before .before .before .before .before .before .before .before .before .before .before .refused .ensures) ∙ c .before .before .before .before .before .before .before .before .before .before .before .if1 .left) _ _ (c .before .before .before .before .before .before .before .before .before .keep .ensures) (not-false _ (c .before .before .before .before .before .before .if2 .left)) _ _ (rw (c .before .before .before .event2 .ensures) at (c .before .before .happen-in .ensures))
 

@@ -1,39 +1,27 @@
+-- `keeping::keep` meets its contract. Assumes nothing.
 use Rattle.records.proofs.Records.{spelled}
 use Rattle.calls.proofs.Letters.{many-few}
-use Prim.Native.Nat.{ℕ, _≤_, _<_, _+_, _*_, _-_}
-use mathlib.Core.Path.{_≡_, refl, sym, ap, _∙_}
-use mathlib.Core.Logic.{⊎-elim}
-use lib.ListN.{length, getD, take, drop, set, length-set}
+use Prim.Native.Nat.{_-_}
 use native.Mathlib.Omega.{arith}
 use borrow.Author.Needs.{needs}
 use Rattle.keeping.proofs.keep.Statement.{statement}
 use Rattle.keeping.proofs.keep.Tie as tie
-use Rattle.keeping.proofs.keep.Reads as reads
-use Rattle.keeping.proofs.keep.Lts as lts
-use Rattle.journal.proofs.append.Reads as append-reads
-use Rattle.records.proofs.spell.Reads as spell-reads
 
--- src/lib.rt:25:29
 slice-aggregate-spell : tie.Need-slice-aggregate-spell
 slice-aggregate-spell c = search needs
 
--- src/lib.rt:25:5
 spell-requires : tie.Need-spell-requires
 spell-requires c κs = (omega (arith, c .before .before .before .pre .1 .0, many-few (c .before .before .before .args .x)), (search needs, search needs))
 
--- src/lib.rt:26:27
 slice-aggregate-append : tie.Need-slice-aggregate-append
 slice-aggregate-append c = search needs
 
--- src/lib.rt:26:5
 append-requires : tie.Need-append-requires
 append-requires c κs = search needs
 
--- src/lib.rt:19:1
 same-length : tie.Need-same-length
 same-length c = search needs
 
--- src/lib.rt:19:1
 returns : tie.Need-returns
 returns c = let o = c .before .before .before .before .before .before .before .before .before .before in let e = spelled (o .args .x) (o .args .v .now) (o .pre .1 .0) (λ z. absurd (omega (arith, o .pre .1 .0, o .pre .1 .1, z))) (o .args .a) in rw (e, ← c .before .before .before .before .before .before .spell .ensures) (c .before .before .append .ensures)
 

@@ -1,34 +1,24 @@
+-- `keeping::next` meets its contract. Assumes nothing.
 use Rattle.keeping.proofs.Calling.{next-short, next-none, next-some}
 use Rattle.journal.proofs.Reading.{free-le}
-use Prim.Native.Nat.{ℕ, _≤_, _<_, _+_, _*_, _-_}
-use mathlib.Core.Path.{_≡_, refl, sym, ap, _∙_}
-use mathlib.Core.Logic.{⊎-elim}
-use lib.ListN.{length, getD, take, drop, set, length-set}
+use Prim.Native.Nat.{_-_}
 use native.Mathlib.Omega.{arith}
 use borrow.Author.Needs.{needs}
 use Rattle.keeping.proofs.next.Statement.{statement}
 use Rattle.keeping.proofs.next.Tie as tie
-use Rattle.keeping.proofs.next.Reads as reads
-use Rattle.keeping.proofs.next.Lts as lts
-use Rattle.journal.proofs.first_free.Reads as first-free-reads
 
--- src/lib.rt:143:9
 returns : tie.Need-returns
 returns c = next-short (c .before .before .args .area .now) (c .if1 .taken)
 
--- src/lib.rt:148:9
 first-free-requires : tie.Need-first-free-requires
 first-free-requires c κs = search needs
 
--- src/lib.rt:150:9
 returns-2 : tie.Need-returns-2
 returns-2 c = next-none (c .before .before .before .before .args .area .now) (c .before .before .if1 .left) _ (c .before .first-free .ensures) (c .if2 .taken)
 
--- src/lib.rt:157:17
 cast-t5 : tie.Need-cast-t5
 cast-t5 c = omega (arith, free-le (c .before .before .before .before .args .area .now), c .before .first-free .ensures)
 
--- src/lib.rt:139:1
 returns-3 : tie.Need-returns-3
 returns-3 c = next-some (c .before .before .before .before .args .area .now) (c .before .before .if1 .left) _ (c .before .first-free .ensures) (c .if2 .left)
 

@@ -1,57 +1,41 @@
+-- `noting::command` meets its contract. Assumes nothing.
 use Rattle.noting.proofs.Lining.{line-deaf, line-short, line-refused}
 use Rattle.at.specs.Lines.{readLine}
 use Rattle.clock.proofs.Saying.{known-good, known-bad}
 use Rattle.rules.specs.Calls.{answer, typed}
-use Prim.Native.Nat.{ℕ, _≤_, _<_, _+_, _*_, _-_}
-use mathlib.Core.Path.{_≡_, refl, sym, ap, _∙_}
-use mathlib.Core.Logic.{⊎-elim}
-use lib.ListN.{length, getD, take, drop, set, length-set}
-use native.Mathlib.Omega.{arith}
+use Prim.Native.Nat.{_-_}
+use mathlib.Core.Path.{refl}
 use borrow.Author.Needs.{needs}
 use Rattle.noting.proofs.command.Statement.{statement}
 use Rattle.noting.proofs.command.Tie as tie
-use Rattle.noting.proofs.command.Reads as reads
-use Rattle.noting.proofs.command.Lts as lts
-use Rattle.inspect.proofs.is_good.Reads as is-good-reads
-use Rattle.noting.proofs.command_in.Reads as command-in-reads
 
--- src/lib.rt:85:9
 returns : tie.Need-returns
 returns c = let a = c .before .before .before .before .before .args in line-deaf (a .state .now) (a .area .now) (a .line .now) (a .out .now) (c .if1 .taken)
 
--- src/lib.rt:91:9
 returns-2 : tie.Need-returns-2
 returns-2 c = let a = c .before .before .before .before .before .before .args in line-short (a .state .now) (a .area .now) (a .line .now) (a .out .now) (c .before .if1 .left) (c .if2 .taken)
 
--- src/lib.rt:96:9
 is-good-requires : tie.Need-is-good-requires
 is-good-requires c κs = search needs
 
--- src/lib.rt:97:9
 same-length : tie.Need-same-length
 same-length c = search needs
 
--- src/lib.rt:97:9
 returns-3 : tie.Need-returns-3
 returns-3 c = let a = c .before .before .before .before .before .before .before .before .before .args in line-refused (a .state .now) (a .area .now) (a .line .now) (a .out .now) (c .before .before .before .before .if1 .left) (c .before .before .before .if2 .left) (answer 1 0) (known-bad (a .state .now) (typed (readLine (a .line .now))) (c .before .is-good .ensures) (c .if3 .taken) .answered) refl
 
--- src/lib.rt:102:5
 command-in-requires : tie.Need-command-in-requires
 command-in-requires c κs = let k = known-good (c .before .before .before .before .before .before .before .before .before .before .before .before .args .state .now) (c .before .before .before .before .is-good .ensures) (c .before .before .before .if3 .left) in (k .0, (k .1, (c .before .before .before .before .before .before .if2 .left, c .before .before .before .before .before .before .before .if1 .left)))
 
--- src/lib.rt:81:1
 same-length-2 : tie.Need-same-length-2
 same-length-2 c = search needs
 
--- src/lib.rt:81:1
 same-length-3 : tie.Need-same-length-3
 same-length-3 c = search needs
 
--- src/lib.rt:81:1
 same-length-4 : tie.Need-same-length-4
 same-length-4 c = search needs
 
--- src/lib.rt:81:1
 returns-4 : tie.Need-returns-4
 returns-4 c = search needs
 

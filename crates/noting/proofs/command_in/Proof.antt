@@ -1,61 +1,42 @@
+-- `noting::command_in` meets its contract. Assumes nothing.
 use Rattle.noting.proofs.Lining.{foreseen-line, fits-line, line-refused, line-full, line-done}
 use borrow.Author.Tests.{not-true, not-false}
-use Prim.Native.Nat.{ℕ, _≤_, _<_, _+_, _*_, _-_}
-use mathlib.Core.Path.{_≡_, refl, sym, ap, _∙_}
-use mathlib.Core.Logic.{⊎-elim}
-use lib.ListN.{length, getD, take, drop, set, length-set}
-use native.Mathlib.Omega.{arith}
+use Prim.Native.Nat.{_-_}
+use mathlib.Core.Path.{sym, _∙_}
 use borrow.Author.Needs.{needs}
 use Rattle.noting.proofs.command_in.Statement.{statement}
 use Rattle.noting.proofs.command_in.Tie as tie
-use Rattle.noting.proofs.command_in.Reads as reads
-use Rattle.noting.proofs.command_in.Lts as lts
-use Rattle.clock.proofs.refused.Reads as refused-reads
-use Rattle.command.proofs.command_in.Reads as command-in-reads
-use Rattle.noting.proofs.keep.Reads as keep-reads
-use Rattle.noting.proofs.verdict.Reads as verdict-reads
 
--- src/lib.rt:66:9
 verdict-requires : tie.Need-verdict-requires
 verdict-requires c κs = search needs
 
--- src/lib.rt:67:8
 refused-requires : tie.Need-refused-requires
 refused-requires c κs = search needs
 
--- src/lib.rt:68:9
 returns : tie.Need-returns
 returns c = let o = c .before .before .before .before .before .before .before in let a = o .args in let f = foreseen-line (a .state .now) (o .pre .1 .0) (a .line .now) _ (c .before .before .verdict .ensures) in line-refused (a .state .now) (a .area .now) (a .line .now) (a .out .now) (o .pre .1 .1 .1) (o .pre .1 .1 .0) _ f (sym (c .before .refused .ensures) ∙ c .if1 .taken)
 
--- src/lib.rt:70:9
 keep-requires : tie.Need-keep-requires
 keep-requires c κs = (c .before .before .before .before .before .before .before .before .pre .1 .1 .0, fits-line (c .before .before .before .before .before .before .before .before .args .line .now) _ (c .before .before .before .verdict .ensures) (sym (c .before .before .refused .ensures) ∙ c .before .if1 .left))
 
--- src/lib.rt:71:9
 same-length : tie.Need-same-length
 same-length c = search needs
 
--- src/lib.rt:71:9
 returns-2 : tie.Need-returns-2
 returns-2 c = let o = c .before .before .before .before .before .before .before .before .before .before .before .before in let a = o .args in let f = foreseen-line (a .state .now) (o .pre .1 .0) (a .line .now) _ (c .before .before .before .before .before .before .before .verdict .ensures) in line-full (a .state .now) (a .area .now) (a .line .now) (a .out .now) (o .pre .1 .1 .1) (o .pre .1 .1 .0) _ f (sym (c .before .before .before .before .before .before .refused .ensures) ∙ c .before .before .before .before .before .if1 .left) _ _ (c .before .before .before .keep .ensures) (not-true _ (c .if2 .taken))
 
--- src/lib.rt:76:5
 command-in-requires : tie.Need-command-in-requires
 command-in-requires c κs = search needs
 
--- src/lib.rt:59:1
 same-length-2 : tie.Need-same-length-2
 same-length-2 c = search needs
 
--- src/lib.rt:59:1
 same-length-3 : tie.Need-same-length-3
 same-length-3 c = search needs
 
--- src/lib.rt:59:1
 same-length-4 : tie.Need-same-length-4
 same-length-4 c = search needs
 
--- src/lib.rt:59:1
 returns-3 : tie.Need-returns-3
 returns-3 c = let o = c .before .before .before .before .before .before .before .before .before .before .before .before .before .before .before .before .before .before .before in let a = o .args in let f = foreseen-line (a .state .now) (o .pre .1 .0) (a .line .now) _ (c .before .before .before .before .before .before .before .before .before .before .before .before .before .before .verdict .ensures) in line-done (a .state .now) (a .area .now) (a .line .now) (a .out .now) (o .pre .1 .1 .1) (o .pre .1 .1 .0) _ f (sym (c .before .before .before .before .before .before .before .before .before .before .before .before .before .refused .ensures) ∙ c .before .before .before .before .before .before .before .before .before .before .before .before .if1 .left) _ _ (c .before .before .before .before .before .before .before .before .before .before .keep .ensures) (not-false _ (c .before .before .before .before .before .before .before .if2 .left)) _ _ _ (c .before .before .before .before .command-in .ensures .0) (c .before .before .before .before .command-in .ensures .1)
 

@@ -1,15 +1,13 @@
+-- `records::same` meets its contract. Assumes nothing.
 use Rattle.records.proofs.Writing.{same-next, same-not, same-all}
 use Rattle.records.specs.Records.{same}
-use Prim.Native.Nat.{ℕ, _≤_, _<_, _+_, _*_, _-_}
-use mathlib.Core.Path.{_≡_, refl, sym, ap, _∙_}
-use mathlib.Core.Logic.{⊎-elim}
-use lib.ListN.{length, getD, take, drop, set, length-set}
+use Prim.Native.Nat.{_≤_, _-_}
+use mathlib.Core.Path.{_≡_, refl}
+use lib.ListN.{length, drop}
 use native.Mathlib.Omega.{arith}
 use borrow.Author.Needs.{needs}
 use Rattle.records.proofs.same.Statement.{statement}
 use Rattle.records.proofs.same.Tie as tie
-use Rattle.records.proofs.same.Reads as reads
-use Rattle.records.proofs.same.Lts as lts
 
 abbrev Inv-loop : tie.InvT-loop
 Inv-loop a b i₀ i = (i ≤ length a) × (same (drop i a) (drop i b) ≡ same a b)
@@ -17,35 +15,27 @@ Inv-loop a b i₀ i = (i ≤ length a) × (same (drop i a) (drop i b) ≡ same a
 abbrev μ-loop : tie.MeasureT-loop
 μ-loop a b i₀ i = length a - i
 
--- src/lib.rt:81:5
 loop-holds : tie.Need-loop-holds Inv-loop μ-loop
 loop-holds c = (omega arith, refl)
 
--- src/lib.rt:82:12
 shared-slice-read-if1 : tie.Need-shared-slice-read-if1 Inv-loop μ-loop
 shared-slice-read-if1 c = search needs
 
--- src/lib.rt:82:20
 shared-slice-read-if1-2 : tie.Need-shared-slice-read-if1-2 Inv-loop μ-loop
 shared-slice-read-if1-2 c = search needs
 
--- src/lib.rt:83:13
 returns : tie.Need-returns Inv-loop μ-loop
 returns c = let o = c .before .before .before .before .before in let j = c .before .before .before .before .loop in same-not (o .args .a .now) (o .args .b .now) (j .i) (o .pre) (omega arith) (c .if1 .taken) (j .inv .1)
 
--- src/lib.rt:85:9
 add-i : tie.Need-add-i Inv-loop μ-loop
 add-i c = search needs
 
--- src/lib.rt:81:5
 loop-less : tie.Need-loop-less Inv-loop μ-loop
 loop-less c = search needs
 
--- src/lib.rt:81:5
 loop-again : tie.Need-loop-again Inv-loop μ-loop
 loop-again c = let o = c .before .before .before .before .before in let j = c .before .before .before .before .loop in (omega arith, same-next (o .args .a .now) (o .args .b .now) (j .i) (o .pre) (omega arith) (c .if1 .left) (j .inv .1))
 
--- src/lib.rt:76:1
 returns-2 : tie.Need-returns-2 Inv-loop μ-loop
 returns-2 c = let o = c .before .before in let j = c .before .loop in same-all (o .args .a .now) (o .args .b .now) (j .i) (o .pre) (omega arith) (j .inv .1)
 

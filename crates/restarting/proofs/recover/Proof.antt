@@ -1,36 +1,24 @@
+-- `restarting::recover` meets its contract. Assumes nothing.
 use borrow.Author.Needs.{needs}
 use borrow.Author.Tests.{not-true, not-false}
-use Rattle.journal.specs.declared.Survey.the-variants.{Bad, Clean, Torn}
+use Rattle.journal.specs.declared.Survey.the-variants.{Clean, Torn}
 use Rattle.journal.specs.Area.{survey}
 use Rattle.journal.proofs.Replaying.{says-most, says-clean, says-torn, torn-below}
 use Rattle.restarting.proofs.Recovering.{recovers-bad, recovers-clean, recovers-stop, recovers-torn}
-use Prim.Native.Nat.{ℕ, _≤_, _<_, _+_, _*_, _-_}
-use mathlib.Core.Path.{_≡_, refl, sym, ap, _∙_}
-use mathlib.Core.Bool.{Bool, true, false, cond, _&&_, not}
-use mathlib.Core.List.{List, [], _∷_, _++_}
-use lib.ListN.{length, getD, take, drop, set, replicate, length-set, length-append, length-take, length-drop, length-replicate}
-use native.Mathlib.Omega.{arith}
+use Prim.Native.Nat.{_-_}
+use mathlib.Core.Path.{_≡_, sym, _∙_}
 use Rattle.restarting.proofs.recover.Statement.{statement}
 use Rattle.restarting.proofs.recover.Tie as tie
-use Rattle.restarting.proofs.recover.Reads as reads
-use Rattle.restarting.proofs.recover.Lts as lts
-use Rattle.journal.proofs.fill.Reads as fill-reads
-use Rattle.journal.proofs.look.Reads as look-reads
-use Rattle.restarting.proofs.replay.Reads as replay-reads
 
--- src/lib.rt:211:9
 look-requires : tie.Need-look-requires
 look-requires c κs = search needs
 
--- src/lib.rt:213:24
 enum-told : tie.Need-enum-told
 enum-told c = search needs
 
--- src/lib.rt:214:23
 enum-known-found : tie.Need-enum-known-found
 enum-known-found c = search needs
 
--- src/lib.rt:214:29
 replay-requires : tie.Need-replay-requires
 replay-requires c κs =
     let o = c .before .before .before .before .before .before .before .before .before in
@@ -39,11 +27,9 @@ replay-requires c κs =
     let e : survey a ≡ Clean n = sym (c .before .before .before .before .before .look .ensures) ∙ c .before .before .before .found .given .1 in
     (o .pre .0, (o .pre .1 .0, (o .pre .1 .1, says-most (says-clean a n e))))
 
--- src/lib.rt:215:22
 enum-known-found-2 : tie.Need-enum-known-found-2
 enum-known-found-2 c = search needs
 
--- src/lib.rt:216:17
 replay-requires-2 : tie.Need-replay-requires-2
 replay-requires-2 c κs =
     let o = c .before .before .before .before .before .before .before .before .before in
@@ -52,15 +38,12 @@ replay-requires-2 c κs =
     let e : survey a ≡ Torn n = sym (c .before .before .before .before .before .look .ensures) ∙ c .before .before .before .found2 .given .1 in
     (o .pre .0, (o .pre .1 .0, (o .pre .1 .1, says-most (says-torn a n e))))
 
--- src/lib.rt:217:17
 same-length : tie.Need-same-length
 same-length c = search needs
 
--- src/lib.rt:217:17
 same-length-2 : tie.Need-same-length-2
 same-length-2 c = search needs
 
--- src/lib.rt:217:17
 returns : tie.Need-returns
 returns c =
     let o = c .before .before .before .before .before .before .before .before .before .before .before .before .before in
@@ -69,7 +52,6 @@ returns c =
     let e : survey a ≡ Torn n = sym (c .before .before .before .before .before .before .before .before .before .look .ensures) ∙ c .before .before .before .before .before .before .before .found2 .given .1 in
     recovers-stop (o .args .state .now) a _ n (c .before .before .before .replay2 .result) (c .before .before .before .replay2 .ensures) e (not-true _ (c .if1 .taken))
 
--- src/lib.rt:219:13
 fill-requires : tie.Need-fill-requires
 fill-requires c κs =
     let o = c .before .before .before .before .before .before .before .before .before .before .before .before .before .before in
@@ -78,23 +60,18 @@ fill-requires c κs =
     let e : survey a ≡ Torn n = sym (c .before .before .before .before .before .before .before .before .before .before .look .ensures) ∙ c .before .before .before .before .before .before .before .before .found2 .given .1 in
     (o .pre .1 .1, torn-below a n e)
 
--- src/lib.rt:205:1
 same-length-3 : tie.Need-same-length-3
 same-length-3 c = search needs
 
--- src/lib.rt:205:1
 returns-2 : tie.Need-returns-2
 returns-2 c = let o = c .before .before .before .before .before .before in recovers-bad (o .args .state .now) (o .args .area .now) _ (sym (c .before .before .look .ensures) ∙ c .enum-told .given .1)
 
--- src/lib.rt:205:1
 same-length-4 : tie.Need-same-length-4
 same-length-4 c = search needs
 
--- src/lib.rt:205:1
 same-length-5 : tie.Need-same-length-5
 same-length-5 c = search needs
 
--- src/lib.rt:205:1
 returns-3 : tie.Need-returns-3
 returns-3 c =
     let o = c .before .before .before .before .before .before .before .before .before .before .before .before in
@@ -103,15 +80,12 @@ returns-3 c =
     let e : survey a ≡ Clean n = sym (c .before .before .before .before .before .before .before .before .look .ensures) ∙ c .before .before .before .before .before .before .found .given .1 in
     recovers-clean (o .args .state .now) a _ n (c .before .before .replay .result) (c .before .before .replay .ensures) e
 
--- src/lib.rt:205:1
 same-length-6 : tie.Need-same-length-6
 same-length-6 c = search needs
 
--- src/lib.rt:205:1
 same-length-7 : tie.Need-same-length-7
 same-length-7 c = search needs
 
--- src/lib.rt:205:1
 returns-4 : tie.Need-returns-4
 returns-4 c =
     let o = c .before .before .before .before .before .before .before .before .before .before .before .before .before .before .before .before .before in

@@ -1,25 +1,22 @@
+-- `restarting::replay` meets its contract. Assumes nothing.
 use borrow.Author.Needs.{needs}
 use lib.Seq.{slice}
 use borrow.Author.Tests.{not-true, not-false}
 use Rattle.buffer.specs.Places.{SIZE}
 use Rattle.buffer.specs.Good.{good}
 use Rattle.buffer.proofs.Goodness.{good-shape}
-use Rattle.journal.specs.Area.{slots, slot, replay}
+use Rattle.journal.specs.Area.{slots, replay}
 use Rattle.journal.proofs.Bytes.{slot-long}
 use Rattle.journal.proofs.Replaying.{replay-on, replay-off, replay-end}
-use Rattle.restarting.specs.Restarting.{step, Answers}
-use Prim.Native.Nat.{ℕ, _≤_, _<_, _+_, _*_, _-_}
+use Rattle.restarting.specs.Restarting.{step}
+use Prim.Native.Nat.{ℕ, _≤_, _-_}
 use mathlib.Core.Path.{_≡_, refl, sym, ap, _∙_}
-use mathlib.Core.Bool.{Bool, true, false, cond, _&&_, not, false≢true}
-use mathlib.Core.List.{List, [], _∷_, _++_}
-use lib.ListN.{length, getD, take, drop, set, replicate, length-set, length-append, length-take, length-drop, length-replicate}
+use mathlib.Core.Bool.{true, false, false≢true}
+use mathlib.Core.List.{List}
+use lib.ListN.{length, take}
 use native.Mathlib.Omega.{arith}
 use Rattle.restarting.proofs.replay.Statement.{statement}
 use Rattle.restarting.proofs.replay.Tie as tie
-use Rattle.restarting.proofs.replay.Reads as reads
-use Rattle.restarting.proofs.replay.Lts as lts
-use Rattle.journal.proofs.record.Reads as record-reads
-use Rattle.restarting.proofs.redo.Reads as redo-reads
 
 abbrev Inv-loop : tie.InvT-loop
 Inv-loop state₀ area n i₀ state i = (i ≤ n) × ((length state ≡ SIZE) × ((good state ≡ true) × (replay step state (slice i n (slots area)) ≡ replay step state₀ (take n (slots area)))))
@@ -27,23 +24,18 @@ Inv-loop state₀ area n i₀ state i = (i ≤ n) × ((length state ≡ SIZE) ×
 abbrev μ-loop : tie.MeasureT-loop
 μ-loop state₀ area n i₀ state i = n - i
 
--- src/lib.rt:195:5
 loop-holds : tie.Need-loop-holds Inv-loop μ-loop
 loop-holds c = let p = c .before .before .pre in (omega arith, (p .0, (p .1 .0, refl)))
 
--- src/lib.rt:196:24
 record-requires : tie.Need-record-requires Inv-loop μ-loop
 record-requires c κs = search needs
 
--- src/lib.rt:196:13
 redo-requires : tie.Need-redo-requires Inv-loop μ-loop
 redo-requires c κs = let o = c .before .before .before .before .before .before in let j = c .before .before .before .loop in (j .inv .1 .0, (j .inv .1 .1 .0, ap length (c .«record» .ensures) ∙ slot-long (o .args .area .now) (o .pre .1 .1 .0) (j .i) (omega arith)))
 
--- src/lib.rt:197:13
 same-length : tie.Need-same-length Inv-loop μ-loop
 same-length c = search needs
 
--- src/lib.rt:197:13
 returns : tie.Need-returns Inv-loop μ-loop
 returns c =
     let o = c .before .before .before .before .before .before .before .before .before .before in
@@ -57,15 +49,12 @@ returns c =
       fit = c .before .before .before .redo .ensures .fit;
     }
 
--- src/lib.rt:199:9
 add-i : tie.Need-add-i Inv-loop μ-loop
 add-i c = search needs
 
--- src/lib.rt:195:5
 loop-less : tie.Need-loop-less Inv-loop μ-loop
 loop-less c = search needs
 
--- src/lib.rt:195:5
 loop-again : tie.Need-loop-again Inv-loop μ-loop
 loop-again c =
     let o = c .before .before .before .before .before .before .before .before .before .before in
@@ -76,11 +65,9 @@ loop-again c =
     let f = c .before .before .before .redo .ensures .fit in
     (omega arith, (good-shape _ f .long, (f, replay-on step (j .state) a long (o .args .n) (o .pre .1 .1 .1) (j .i) (omega arith) _ (same ∙ c .before .before .before .redo .ensures .on (not-false _ (c .if1 .left))) ∙ j .inv .1 .1 .1)))
 
--- src/lib.rt:187:1
 same-length-2 : tie.Need-same-length-2 Inv-loop μ-loop
 same-length-2 c = search needs
 
--- src/lib.rt:187:1
 returns-2 : tie.Need-returns-2 Inv-loop μ-loop
 returns-2 c =
     let o = c .before .before .before .before in

@@ -1,25 +1,19 @@
+-- `restarting::restart` meets its contract. Assumes nothing.
 use borrow.Author.Needs.{needs}
-use mathlib.Core.Path.{_≡_, refl, sym, ap, _∙_, subst}
+use mathlib.Core.Path.{sym, ap, _∙_, subst}
 use borrow.Author.Tests.{not-true, not-false}
 use Rattle.journal.specs.Area as Area
 use Rattle.buffer.specs.Good.{good}
 use Rattle.clock.proofs.Saying.{known-good}
 use Rattle.restarting.specs.Restarting.{step, Recovers}
 use Rattle.restarting.proofs.Recovering.{restart-area, restart-state, restart-image, restart-refused, restart-done}
-use Prim.Native.Nat.{ℕ, _≤_, _<_, _+_, _*_, _-_}
-use mathlib.Core.Bool.{Bool, true, false, cond, _&&_, not}
-use mathlib.Core.List.{List, [], _∷_, _++_}
-use lib.ListN.{length, getD, take, drop, set, replicate, length-set, length-append, length-take, length-drop, length-replicate}
+use Prim.Native.Nat.{ℕ, _-_}
+use mathlib.Core.List.{List}
+use lib.ListN.{length}
 use native.Mathlib.Omega.{arith}
 use Rattle.restarting.proofs.restart.Statement.{statement}
 use Rattle.restarting.proofs.restart.Tie as tie
-use Rattle.restarting.proofs.restart.Reads as reads
-use Rattle.restarting.proofs.restart.Lts as lts
-use Rattle.inspect.proofs.is_good.Reads as is-good-reads
-use Rattle.restarting.proofs.copy.Reads as copy-reads
-use Rattle.restarting.proofs.recover.Reads as recover-reads
 
--- src/lib.rt:243:9
 returns : tie.Need-returns
 returns c =
     let o = c .before .before .before .before .args in
@@ -28,7 +22,6 @@ returns c =
     let s = o .state .now in
     restart-area i a s (c .if1 .taken)
 
--- src/lib.rt:249:9
 returns-2 : tie.Need-returns-2
 returns-2 c =
     let o = c .before .before .before .before .before .args in
@@ -37,11 +30,9 @@ returns-2 c =
     let s = o .state .now in
     restart-state i a s (c .before .if1 .left) (c .if2 .taken)
 
--- src/lib.rt:254:9
 is-good-requires : tie.Need-is-good-requires
 is-good-requires c κs = search needs
 
--- src/lib.rt:255:9
 returns-3 : tie.Need-returns-3
 returns-3 c =
     let o = c .before .before .before .before .before .before .before .args in
@@ -50,19 +41,15 @@ returns-3 c =
     let s = o .state .now in
     restart-image i a s (c .before .before .before .if1 .left) (c .before .before .if2 .left) (sym (c .before .is-good .ensures) ∙ not-true _ (c .if3 .taken))
 
--- src/lib.rt:261:17
 slice-aggregate-copy : tie.Need-slice-aggregate-copy
 slice-aggregate-copy c = search needs
 
--- src/lib.rt:261:5
 copy-requires : tie.Need-copy-requires
 copy-requires c κs = let o = c .before .before .before .before .before .before .before .before .args in sym (known-good (o .image .now) (c .before .before .is-good .ensures) (c .before .if3 .left) .0)
 
--- src/lib.rt:262:17
 slice-aggregate-recover : tie.Need-slice-aggregate-recover
 slice-aggregate-recover c = search needs
 
--- src/lib.rt:262:9
 recover-requires : tie.Need-recover-requires
 recover-requires c κs =
     let o = c .before .before .before .before .before .before .before .before .before .before .before .before .args in
@@ -70,11 +57,9 @@ recover-requires c κs =
     let e = c .before .before .before .copy .ensures in
     (ap length e ∙ g .0, (ap good e ∙ g .1, c .before .before .before .before .before .before .before .before .if1 .left))
 
--- src/lib.rt:263:9
 same-length : tie.Need-same-length
 same-length c = search needs
 
--- src/lib.rt:263:9
 returns-4 : tie.Need-returns-4
 returns-4 c =
     let o = c .before .before .before .before .before .before .before .before .before .before .before .before .before .before .before .before .before .args in
@@ -87,25 +72,20 @@ returns-4 c =
     let e = subst (λ (b : List ℕ). Recovers (Area.restart step b a) a (c .before .before .before .before .recover .result) x w) (c .before .before .before .before .before .before .before .before .copy .ensures) (c .before .before .before .before .recover .ensures) in
     restart-refused i a s (c .before .before .before .before .before .before .before .before .before .before .before .before .before .if1 .left) (c .before .before .before .before .before .before .before .before .before .before .before .before .if2 .left) g (c .before .before .before .before .recover .result) x w e (not-true _ (c .if4 .taken))
 
--- src/lib.rt:268:10
 slice-aggregate-copy-2 : tie.Need-slice-aggregate-copy-2
 slice-aggregate-copy-2 c = search needs
 
--- src/lib.rt:268:5
 copy-requires-2 : tie.Need-copy-requires-2
 copy-requires-2 c κs =
     let g = known-good (c .before .before .before .before .before .before .before .before .before .before .before .before .before .before .before .before .before .before .before .args .image .now) (c .before .before .before .before .before .before .before .before .before .before .before .before .before .is-good .ensures) (c .before .before .before .before .before .before .before .before .before .before .before .before .if3 .left) .0 in
     omega (arith, c .before .before .before .before .before .before .before .before .before .before .before .before .before .before .if2 .left, c .before .before .before .before .before .before .recover .kept .0, ap length (c .before .before .before .before .before .before .before .before .before .before .copy .ensures), g)
 
--- src/lib.rt:239:1
 same-length-2 : tie.Need-same-length-2
 same-length-2 c = search needs
 
--- src/lib.rt:239:1
 same-length-3 : tie.Need-same-length-3
 same-length-3 c = search needs
 
--- src/lib.rt:239:1
 returns-5 : tie.Need-returns-5
 returns-5 c =
     let o = c .before .before .before .before .before .before .before .before .before .before .before .before .before .before .before .before .before .before .before .before .before .before .args in
