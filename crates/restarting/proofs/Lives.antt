@@ -12,12 +12,13 @@ use borrow.Author.Tests.{eq-eqb, ltb-true, lt-ltb, le-ltb}
 use Rattle.rules.specs.declared.Answer.{Answer}
 use Rattle.rules.specs.Calls.{Call, answer}
 use Rattle.rules.specs.Rules.{refused}
+use Rattle.rules.specs.Told.{ruled}
 use Rattle.buffer.specs.Places.{SIZE}
 use Rattle.buffer.specs.Layout.{view}
 use Rattle.buffer.specs.Good.{good}
 use Rattle.clock.specs.Call.{callAfter, Says}
 use Rattle.opening.specs.Open.{Order, Typed, givenBy, OpenSays}
-use Rattle.gate.specs.History.{Doing, calls, called as calling, Run, done as ends, then, begun as from, since}
+use Rattle.gate.specs.History.{Doing, calls, called as calling, Run, done as ends, then, begun as from, Since, since, recordOf}
 use Rattle.gate.specs.Demands.{OnTheBuffer}
 use Rattle.gate.proofs.Demand3.{demand-3-on-the-buffer, demand-3-from-a-good-buffer}
 use Rattle.journal.specs.Area.{AREA, SLOTS, slots, free, CutAppend, Dips, done, restart}
@@ -153,6 +154,7 @@ module _ (image : List ℕ) (ok : good image ≡ true) where
   stands {s} {a} h =
       let t = has h in
       record {
+        long = live step image (t .lives) .0 .long;
         run = t .ran;
         restarts = found a s a (live step image (t .lives) .0 .long) (restarted step image (t .lives));
         cut-before = λ n w e b c k d l. finds-before n (t .lives) w e k d (lt-ltb (k .stores) 128 l);
@@ -179,3 +181,15 @@ demand-3-across-restarts b o r y t q z ds qs image d s a ns rs h =
 pub demand-3-from-an-image : (image : List ℕ) → good image ≡ true → (s a : List ℕ) (ns : List Noted) (rs : List Answer) → Lived image s a ns rs
     → OnTheBuffer (since (from (view image)) (map plain ns) rs) s
 demand-3-from-an-image image ok s a ns rs h = demand-3-from-a-good-buffer image ok (map plain ns) rs s (stands image ok h .run)
+
+-- with room in the journal, a journaled call is answered as the rules answer over the record
+pub answers-with-room : (h : Since) (s : List ℕ) → OnTheBuffer h s → (a : List ℕ) → length a ≡ AREA → free (slots a) < SLOTS
+    → (n : Noted) (r : Answer) (x y : List ℕ) → Journals s a n r x y → r ≡ ruled (h .given) (recordOf h) (callOf n)
+unfolding journalAnswer
+answers-with-room h s o a long room n r x y j =
+    let e : r ≡ answerAt s n = j .answered ∙ go (refused (answerAt s n)) in
+    e ∙ o .next (callOf n) (answerAt s n) (callAfter s (callOf n)) (record { answered = refl; left = refl })
+  where
+    go : (q : Bool) → cond (sized a) (cond (not q && not (roomy a)) (answer 6 0) (answerAt s n)) (answer 1 0) ≡ answerAt s n
+    go true = rw (eq-eqb (length a) AREA long)
+    go false = rw (eq-eqb (length a) AREA long, lt-ltb (free (slots a)) SLOTS room)

@@ -2,13 +2,14 @@
 -- meaning is the call that the gate writes so; and restart allows one result only. Assumes nothing.
 use mathlib.Core.Path.{_≡_, refl, sym, ap, _∙_, subst}
 use mathlib.Core.Bool.{Bool, true, false, cond, not, _&&_, false≢true}
-use mathlib.Core.List.{List, []}
+use mathlib.Core.List.{List, [], _∷_, _++_}
 use mathlib.Core.Logic.{_≢_}
 use mathlib.Core.Option.{Option, none, some}
 use Prim.Native.Nat.{ℕ}
 use native.Mathlib.Omega.{arith}
 use Rattle.rules.specs.declared.Answer.{Answer}
 use Rattle.rules.specs.Calls.{Call, answer, Entry}
+use Rattle.rules.specs.declared.Event.{Event}
 use Rattle.rules.specs.State.{State}
 use Rattle.rules.specs.Rules.{refused}
 use Rattle.rules.specs.Direct.{Given, permitted, on-grant, on-drop, on-tick, on-line, out-of-range, out-of-time, wrong-standing, not-as-above, held, blocked, ordered, backed-off, in-its-place, other-action}
@@ -20,11 +21,12 @@ use Rattle.clock.proofs.Saying.{says-bad}
 use Rattle.gate.specs.History.{done as ends}
 use Rattle.gate.proofs.Demand3.{demand-3-from-a-good-buffer}
 use Rattle.journal.specs.Area.{Restarted, refused as none-found, done}
-use Rattle.records.specs.Records.{Noted, callOf, parsed, same}
+use Rattle.records.specs.Records.{Noted, times, types, callOf, parsed, same}
 use Rattle.records.proofs.Records.{same-eq}
-use Rattle.keeping.specs.Keeping.{answerAt, recordAt, sized, roomy, appends, journalAnswer, Journals}
+use Rattle.keeping.specs.Keeping.{answerAt, recordAt, sized, roomy, appends, journalAnswer, heard, Journals, JournalsLine}
+use Rattle.noting.proofs.Lining.{line-journals}
 use Rattle.restarting.specs.Restarting.{writes, stepBy, step, fits, judged, RestartSays}
-use Rattle.restarting.specs.Lives.{Wrote, wrote}
+use Rattle.restarting.specs.Lives.{Wrote, wrote, Sized, plus, Lived, called, obeyed}
 
 -- ---- No plain call answers 6
 
@@ -95,6 +97,23 @@ module _ {b a : List ℕ} {n : Noted} {r : Answer} {x y : List ℕ} (j : Journal
       go true false false d e f k = false≢true k
       go true true t d e f k = false≢true k
       go false q t d e f k = false≢true k
+
+-- ---- Every call that has returned
+
+-- a call that has returned and was not refused is the newest of the journal's calls, with the answer
+-- that was given
+module _ {image s a x y : List ℕ} {ns : List Noted} {rs : List Answer} (h : Lived image s a ns rs) (r : Answer) (ok : refused r ≡ false) (room : r .number ≢ 6) where
+  pub returned : (t : ℕ) (e : Event) → Sized (times t e) → Journals s a (times t e) r x y → Lived image x y (ns ++ (times t e ∷ [])) (rs ++ (r ∷ []))
+  returned t e w j = rw (accepted-kept j ok room) at (called t e r h w j)
+
+  pub returned-line : (line space z : List ℕ) → JournalsLine s a line space r x y z → Lived image x y (ns ++ (types line ∷ [])) (rs ++ (r ∷ []))
+  returned-line line space z j = go (heard space) refl (obeyed line space r h j)
+    where
+      go : (b : Bool) → heard space ≡ b
+          → Lived image x y (plus ns (b && appends s a (types line)) (types line)) (plus rs (b && appends s a (types line)) r)
+          → Lived image x y (ns ++ (types line ∷ [])) (rs ++ (r ∷ []))
+      go true e l = rw (accepted-kept (line-journals j e) ok room) at l
+      go false e l = let z : r ≡ answer 1 0 = j .answered ∙ rw e in absurd (false≢true (sym ok ∙ ap refused z))
 
 -- ---- Restart
 

@@ -70,6 +70,8 @@ pub record Finds (image c : List ℕ) (x y : List ℕ) : Type 0 where
       → (r ≡ answer 0 0) × (x′ ≡ x) × (y′ ≡ y)
 
 pub record Stands (image s a : List ℕ) (ns : List Noted) (rs : List Answer) : Type 0 where
+  -- the area has kept its length
+  pub long : length a ≡ AREA
   -- the state is what the plain calls leave, from the image on: each call of the journal once, in
   -- its order, with the answer that it was given
   pub run : Run image (map plain ns) rs s
