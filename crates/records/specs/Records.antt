@@ -56,10 +56,11 @@ unfoldable pub encoded : Noted → Answer → List ℕ
 encoded (times t e) a = packed (letterOf e) (imageOf (t ∷ argumentsOf e)) a
 encoded (types l) a = packed letterA (imageOf (length l ∷ []) ++ l) a
 
--- what can stand in a record: numbers of 32 bits, and document 01's AT lines, of at most 96 bytes
+-- document 01's longest AT line
 abbrev pub longestLine : ℕ
 longestLine = 96
 
+-- what can stand in a record: numbers of 32 bits, and AT lines that are no longer
 abbrev pub Fits : Noted → Type 0
 Fits (times t e) = Words (t ∷ argumentsOf e)
 Fits (types l) = length l ≤ longestLine
