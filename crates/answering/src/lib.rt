@@ -1,6 +1,7 @@
 // The lines of an input, one after the other, and their answers: bytes that stand in one room are
 // cut at each LF, and what each line is answered goes to another room. Nothing is read or written
 // here.
+#![tactic(auto)]
 ghost use Rattle.std.specs.Prelude.{◌+◌, ◌-◌, ◌≤◌, ◌<◌, ◌≡◌, [], ◌++◌, length, take};
 ghost use Rattle.std.proofs.Math.Seq.{slice};
 ghost use Rattle.answering.specs.Known.{Known};
@@ -10,7 +11,7 @@ ghost use Rattle.answering.specs.Cut.{Cut, Kept};
 // What is kept from one read to the next: how many bytes of an unfinished line stand at the front
 // of the input, whether they are of a line that is too long and is passed over to its LF, whether
 // the buffer is known to be good, whether to read on, and whether all writes went well.
-#[derive(Drop)]
+#[derive(Clone, Copy)]
 pub struct Carry {
     pub held: usize,
     pub skip: bool,
@@ -22,7 +23,7 @@ pub struct Carry {
 // How far the input is cut into lines: where the line that has begun starts, the place of the next
 // byte, whether the line is too long and was passed over, how many bytes of output wait, whether
 // the buffer is known to be good, and whether all writes went well.
-#[derive(Drop)]
+#[derive(Clone, Copy)]
 pub struct Left {
     pub start: usize,
     pub place: usize,
@@ -33,7 +34,7 @@ pub struct Left {
 }
 
 // After a line: how many bytes of output wait, and whether the buffer is known to be good.
-#[derive(Drop)]
+#[derive(Clone, Copy)]
 struct Told {
     fill: usize,
     known: bool,

@@ -1,6 +1,7 @@
 // AT lines: what a line says, as an order. `read` is for everyone else: it has a reader, which
 // keeps the line and its place in it, read the name, move past it and read on. The reading itself
 // is done by functions on line and place. Assumes nothing.
+#![tactic(auto)]
 ghost use Rattle.std.specs.Prelude.{◌≡◌, ◌+◌, ◌<◌, ◌^◌, [], length, drop};
 ghost use Rattle.at.specs.Order.{listed, order_of, plain_order};
 ghost use Rattle.at.specs.Lines.{starts as startsOf, ends as endsOf, flag_of};
@@ -10,7 +11,7 @@ ghost use Rattle.at.specs.Lines.{word, name_of, arguments_of, ahead, behind};
 use text::{Num, decimal};
 
 // The order of a line; `Bad` is none.
-#[derive(Drop)]
+#[derive(Clone, Copy)]
 pub enum Kind {
     Query,
     Nfm(u32),
@@ -20,7 +21,7 @@ pub enum Kind {
 }
 
 // The name that a line begins with; `Other` is none.
-#[derive(Drop)]
+#[derive(Clone, Copy)]
 enum Name {
     Flags,
     Intervals,
@@ -28,14 +29,14 @@ enum Name {
 }
 
 // Intervals: the first `count` of ten places.
-#[derive(Drop)]
+#[derive(Clone, Copy)]
 struct Listed {
     count: usize,
     list: [u32; 10],
 }
 
 // An order with its intervals, of which only `Intervals` has any.
-#[derive(Drop)]
+#[derive(Clone, Copy)]
 pub struct Order {
     pub kind: Kind,
     pub count: usize,
@@ -235,7 +236,7 @@ fn arguments_at(line: &[u8], at: usize, name: Name) -> Order
 }
 
 // A line and the place in it from which it is read on.
-#[derive(Drop)]
+#[derive(Clone, Copy)]
 struct Reader<'a> {
     line: &'a [u8],
     at: usize,

@@ -1,5 +1,6 @@
 // The back-off of a service: a small value that each outcome hands back moved on, its two places,
 // and how long it waits.
+#![tactic(auto)]
 ghost use Rattle.std.specs.Prelude.{◌≡◌, true, ◌+◌, ◌%◌, ◌<◌, ◌≤◌, length};
 ghost use Rattle.rules.specs.Tables.{one_more, interval};
 ghost use Rattle.rules.specs.Rules.{wait, failed};
@@ -13,7 +14,7 @@ use rules::Answer;
 
 // The back-off of one service: its failures in a row, and the time at which its wait ends; 0 is
 // none.
-#[derive(Drop)]
+#[derive(Clone, Copy)]
 pub struct Backoff {
     pub failures: u32,
     pub end: u32,

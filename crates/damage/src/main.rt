@@ -1,6 +1,7 @@
 // Judges damaged buffers, for the outside test of the table. Standard input is three whole buffers of 1,400 numbers, 32 bits each, little
 // end first, and then records of 40 bytes: which of the three, how long a buffer to judge, and six places with a new number for each. For
 // each record it writes 1 for a good buffer and 0 for a bad one. A place of 1,400 or more is passed over.
+#![tactic(auto)]
 ghost use Rattle.std.specs.Prelude.{◌≡◌, ◌+◌, ◌*◌, ◌≤◌, ◌<◌, length};
 
 fn wide(x: u8) -> u32

@@ -1,5 +1,6 @@
 // How a request is decided, on a buffer that is known to be good, by reading alone: the checks, the
 // back-off, and the limits row by row.
+#![tactic(auto)]
 ghost use Rattle.std.specs.Prelude.{◌≡◌, true, cond, ◌&&◌, ◌≤◌, ◌<◌, length, ltb};
 ghost use Rattle.rules.specs.Calls.{timed};
 ghost use Rattle.rules.specs.declared.Event.TheVariants.{Ask as ask};
@@ -18,7 +19,7 @@ use rules::Answer;
 
 // A row of the table of limits: its number, whether it applies to the request, the most permits in
 // an hour, and the list on which they stand.
-#[derive(Drop)]
+#[derive(Clone, Copy)]
 pub struct Row {
     pub number: u32,
     pub applies: bool,

@@ -1,6 +1,7 @@
 // Every timed call, by what happens: a request, an outcome of a service, service 2 dropped, or
 // nothing but the clock. `happen` is the call, on any buffer; `happen_in` is the same on a buffer
 // that is known to be good.
+#![tactic(auto)]
 ghost use Rattle.std.specs.Prelude.{◌≡◌, true, length};
 ghost use Rattle.rules.specs.Calls.{timed};
 ghost use Rattle.buffer.specs.Places.{SIZE};

@@ -1,6 +1,7 @@
 // The journal: an area of 65,536 bytes, 512 slots of 128 for a record each. A record is written
 // front to back over bytes of 255, a byte with each store, and its slot is filled again from the
 // back. Nothing here knows what a record means.
+#![tactic(auto)]
 ghost use Rattle.std.specs.Prelude.{◌≡◌, true, false, ◌+◌, ◌*◌, ◌-◌, ◌≤◌, ◌<◌, ◌++◌, length, take, drop, set, replicate};
 ghost use Rattle.journal.specs.Area.{slots, slot, written, filled, erased, free, count, survey, Appends};
 
@@ -9,7 +10,7 @@ pub const AREA: usize = 65536;
 
 // What a look at the area finds: a bad area; or n whole records, and behind them nothing, or a torn
 // one.
-#[derive(Drop)]
+#[derive(Clone, Copy)]
 pub enum Survey {
     Bad,
     Clean(usize),

@@ -1,5 +1,6 @@
 // One trace line in, its answer out. `answer` takes any buffer; `answer_in` is for one that is known to be good, and does not check it. Both
 // promise the same.
+#![tactic(auto)]
 ghost use Rattle.std.specs.Prelude.{◌≡◌, true, [], ◌∷◌, ◌++◌, ◌+◌, ◌-◌, ◌≤◌, ◌<◌, length, get_or, take, drop, replicate};
 ghost use Rattle.rules.specs.Calls.{timed};
 ghost use Rattle.buffer.specs.Places.{SIZE};
@@ -16,14 +17,14 @@ use rules::Answer;
 use text::Num;
 
 // What a line is answered: two numbers, or ERR.
-#[derive(Drop)]
+#[derive(Clone, Copy)]
 pub enum Reply {
     Numbers(Answer),
     Wrong,
 }
 
 // A1 and S1.
-#[derive(Drop)]
+#[derive(Clone, Copy)]
 enum House {
     Limits(u32, u32),
     Nothing,

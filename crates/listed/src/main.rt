@@ -2,6 +2,7 @@
 // 65,536 bytes. On standard output each whole record is a trace line with its answer, slot by slot.
 // What is no record is told on standard error, with the number of its slot. Of an area of another
 // length nothing is printed.
+#![tactic(auto)]
 ghost use Rattle.std.specs.Prelude.{◌≡◌, ◌++◌, ◌+◌, ◌≤◌, ◌<◌, length, take};
 ghost use Rattle.listed.specs.Slots.{torn_at, held, held_by, size_of, line_at, note_at, told, lines_of, notes_of};
 
@@ -10,7 +11,7 @@ use listing::Line;
 
 // What a slot holds: 255s, a torn record, a whole one, whose line has so many bytes, or none of
 // these.
-#[derive(Drop)]
+#[derive(Clone, Copy)]
 enum Slot {
     Blank,
     Torn,

@@ -1,5 +1,6 @@
 // A record of the journal as a trace line with its answer: document 01's letter and fields, then
 // the two numbers that the gate answered, and LF. What is the record of no call has no line.
+#![tactic(auto)]
 ghost use Rattle.std.specs.Prelude.{◌≡◌, [], ◌∷◌, ◌++◌, ◌≢◌, ◌+◌, ◌-◌, ◌*◌, ◌≤◌, length, get_or, take};
 ghost use Rattle.std.proofs.lemmas.List.Edits.{sets};
 ghost use Rattle.image.specs.Image.{image_of};
@@ -12,7 +13,7 @@ use at::Kind;
 use rules::Answer;
 
 // The line of a record: so many bytes, or none.
-#[derive(Drop)]
+#[derive(Clone, Copy)]
 pub enum Line {
     Bytes(usize),
     Nothing,

@@ -1,6 +1,7 @@
 // Restart: the state after an image and the journal that was begun with it. All of it is judged on
 // a copy of the image before anything is written; then a torn record's slot is filled, from the
 // back, and then the state is written.
+#![tactic(auto)]
 ghost use Rattle.std.specs.Prelude.{◌≡◌, true, ◌≤◌, length, get_or, take, drop};
 ghost use Rattle.std.proofs.Math.Option.{some};
 ghost use Rattle.buffer.specs.Places.{SIZE};

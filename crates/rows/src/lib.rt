@@ -1,5 +1,6 @@
 // Numbers in a line of bytes, read from a place on: one after a space, or several with a byte
 // between them.
+#![tactic(auto)]
 ghost use Rattle.std.specs.Prelude.{◌≡◌, [], ◌≤◌, length, drop};
 ghost use Rattle.text.specs.Number.{part_of, place_of, value_of};
 ghost use Rattle.rows.specs.Rows.{begins as beginsOf, field as field_of, numbers as numbers_of, fields as fields_of, row_of};
@@ -7,7 +8,7 @@ ghost use Rattle.rows.specs.Rows.{begins as beginsOf, field as field_of, numbers
 use text::Num;
 
 // A row of numbers that was read: how many, 0 for none, and the place after them.
-#[derive(Drop)]
+#[derive(Clone, Copy)]
 pub struct Span {
     pub count: usize,
     pub next: usize,

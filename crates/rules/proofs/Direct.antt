@@ -93,6 +93,13 @@ module _ (g : State) (past : List Entry) where
   sent (out_of_time x y) e by_order = absurd (omega arith)
   sent (wrong_standing x y z) e by_order = absurd (omega arith)
   sent (ordered x d) e by_order = record { late = x.in_time.not_below; keeps = λ n L k. in_N1 d }
+  sent (on_grant x) e z = elim z [ ]
+  sent (on_drop x) e z = elim z [ ]
+  sent (on_line x) e z = elim z [ ]
+  sent (not_as_above x) e z = elim z [ ]
+  sent (backed_off x f n) e z = elim z [ ]
+  sent (in_its_place x f n) e z = elim z [ ]
+  sent (other_action x f) e z = elim z [ ]
 
   listed : {t m q : ℕ} {c : Call} (a : Answer) → Sends t c m q → a.number ≡ m → (k : Kind) → goes q k ≡ true
       → permits g k (entry c a ∷ past) ≡ permits g k past ++ (t ∷ [])
@@ -214,6 +221,16 @@ module _ (g : State) (past : List Entry) where
   reset_now (out_of_time r x) (orders y d) = absurd (x y.in_time)
   reset_now (wrong_standing r i x) (orders y d) = absurd (x y.fits)
   reset_now (ordered x h) (orders y d) = refl
+  reset_now (permitted x free keeps) z = elim z [ ]
+  reset_now (on_grant x) z = elim z [ ]
+  reset_now (on_drop x) z = elim z [ ]
+  reset_now (on_line x) z = elim z [ ]
+  reset_now (not_as_above x) z = elim z [ ]
+  reset_now (held x low h) z = elim z [ ]
+  reset_now (blocked x free l v lower u) z = elim z [ ]
+  reset_now (backed_off x f n) z = elim z [ ]
+  reset_now (in_its_place x f n) z = elim z [ ]
+  reset_now (other_action x f) z = elim z [ ]
 
   -- ---- What is known after an answer
 
@@ -258,6 +275,11 @@ module _ (g : State) (past : List Entry) where
   unfolding due_now
   due_set t (outcome s (rejected cause second column)) a (runs p above on) z =
       rw (p, lt-ltb 0 g.facts.opening.T1 above, eq-eqb g.facts.opening.rpm 1 on, eq-eqb (due_now g past) 0 z)
+  due_set t (ask q) a h z = elim h [ ]
+  due_set t (outcome s granted) a h z = elim h [ ]
+  due_set t (outcome s silent) a h z = elim h [ ]
+  due_set t dropped a h z = elim h [ ]
+  due_set t tick a h z = elim h [ ]
 
   zero : (b : Bool) {n : ℕ} → n ≡ 0 → cond b 0 n ≡ 0
   zero true z = refl

@@ -1,11 +1,12 @@
 // Decimals out of bytes, and bytes out of decimals: only this crate knows what a digit is. Assumes nothing.
+#![tactic(auto)]
 ghost use Rattle.std.specs.Prelude.{◌≡◌, ◌+◌, ◌≤◌, length, drop};
 ghost use Rattle.std.proofs.lemmas.List.Edits.{sets};
 ghost use Rattle.text.specs.Printed.{print_num, print_two};
 ghost use Rattle.text.specs.Number.{digit_of, num, part_of, place_of, value_of};
 
 // A number and the place after it, or nothing.
-#[derive(Drop)]
+#[derive(Clone, Copy)]
 pub enum Num {
     At(u64, usize),
     Nothing,

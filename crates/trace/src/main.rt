@@ -4,6 +4,7 @@
 // next read, so that one who types lines sees the answers. The memory used does not grow with the
 // input. With `--state FILE` the buffer after the last line is written to FILE: 1,331 numbers of
 // four bytes, the lowest first.
+#![tactic(auto)]
 ghost use Rattle.std.specs.Prelude.{◌+◌, ◌≤◌, ◌≡◌, not, ◌&&◌, length, eqb};
 ghost use Rattle.std.proofs.Math.Seq.{slice};
 ghost use Rattle.buffer.specs.Places.{SIZE};

@@ -2,6 +2,7 @@
 // input, 1,330 numbers of four bytes each, the lowest first, and writes the state of this version
 // to standard output, 1,331 numbers. Where it is no good state of version 1, nothing is written
 // there.
+#![tactic(auto)]
 ghost use Rattle.std.specs.Prelude.{◌≡◌, ◌≤◌, length, take};
 ghost use Rattle.buffer.specs.Places.{BYTES};
 ghost use Rattle.turn.specs.Turned.{turned_image};

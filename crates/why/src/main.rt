@@ -2,6 +2,7 @@
 // is kept in a file: 1,331 numbers of four bytes each, the lowest first. It prints the first rule
 // that stands and how many there are, then a line for each: the back-off's number, or a limit's
 // with the permit time that has to leave the hour. A refusal is its number and 0.
+#![tactic(auto)]
 ghost use Rattle.std.specs.Prelude.{◌≡◌, ◌++◌, ◌+◌, ◌≤◌, length, take};
 ghost use Rattle.std.proofs.lemmas.List.Edits.{sets};
 ghost use Rattle.text.specs.Number.{num, part_of, value_of};
@@ -14,7 +15,7 @@ use reasons::said::Why;
 use text::Num;
 
 // How many bytes of a file there are, or that it could not be read.
-#[derive(Drop)]
+#[derive(Clone, Copy)]
 enum Loaded {
     Bytes(usize),
     Not,

@@ -6,13 +6,13 @@ use Rattle.mixing.specs.Mixing.{mixed}
 use Rattle.mixing.proofs.draw.Statement.{statement}
 use Rattle.mixing.proofs.draw.Tie as tie
 
-mul-mix : tie.Need-overflow-mul-mix
+mul-mix : tie.Need-overflow_mul-imsi
 mul-mix c = search rules
 
 tries-requires : tie.Need-tries-requires
 tries-requires c κs = search rules
 
-add-mix : tie.Need-overflow-add-mix
+add-mix : tie.Need-overflow_add-imsi
 add-mix c = search rules
 
 mix-requires : tie.Need-mix-requires
