@@ -2,6 +2,7 @@
 // One routine adds to it, and one says for how long it is full. They know of no buffer: the places
 // are lent to them.
 #![tactic(auto)]
+
 ghost use Rattle.std.specs.Prelude.{◌≡◌, true, ◌+◌, ◌≤◌, ◌<◌, min, length, take};
 ghost use Rattle.rules.specs.Tables.{ascending};
 ghost use Rattle.permits.specs.Permits.{Holds, appended, full_for};

@@ -5,7 +5,6 @@ use mathlib.Core.Bool.{Bool, true, false, cond, ◌&&◌}
 use mathlib.Core.List.{List}
 use Prim.Native.Nat.{ℕ, ◌+◌, ◌-◌, ◌≤◌, ◌<◌}
 use native.Mathlib.Omega.{arith}
-use borrow.Author.Rules.{rules}
 use borrow.Author.Tests.{le-leb, lt-leb, ltb-false}
 use lib.Dec.{leb, ltb}
 use lib.ListN.{length, take, get_or}
@@ -14,8 +13,7 @@ use Rattle.rules.specs.Tables.{within, from_newest, free_in, ascending}
 use Rattle.rules.proofs.Newest.{Rising, ascending_rises}
 use Rattle.rules.proofs.Hour.{rising_at, one_time}
 use Rattle.permits.specs.Permits.{full_for}
-use Rattle.permits.proofs.full_for.Statement.{statement}
-use Rattle.permits.proofs.full_for.Tie as tie
+use Rattle.permits.proofs.full_for.Goals as goal
 
 -- the first n of p, which rise to t
 module _ (p : List ℕ) (n t : ℕ) (long : n ≤ length p) (up : ascending 0 t (take n p) ≡ true) where
@@ -52,52 +50,26 @@ module _ (p : List ℕ) (n t : ℕ) (long : n ≤ length p) (up : ascending 0 t 
         go true e = refl
         go false e = let k = ltb-false t (x + 3600) e in omega arith
 
-returns : tie.Need-returns
-returns c =
-    let x = c.before in
-    let a = x.args in
-    sym (short a.p.now a.n a.t x.requires.0 x.requires.1.0 a.most x.requires.1.1 (omega (arith, c.if1.true)))
+pub returns-then-n-most : goal.returns-then-n-most
+returns-then-n-most c =
+    let a = c.args in
+    sym (short a.p.now a.n a.t c.requires.n_in_bounds c.requires.p_value a.most c.requires.most_nonzero (omega (arith, c.if-n-most.true)))
 
-sub-i : tie.Need-overflow-sub-i
-sub-i c = search rules
+pub bounds-p-i : goal.bounds-p-i
+bounds-p-i c = omega (arith, c.requires.n_in_bounds, c.requires.most_nonzero)
 
-mul-age : tie.Need-overflow-mul-age
-mul-age c = search rules
+pub overflow_sub-age : goal.overflow_sub-age
+overflow_sub-age c =
+    let a = c.args in
+    past a.p.now a.n a.t c.requires.n_in_bounds c.requires.p_value _ (omega (arith, c.requires.most_nonzero, c.if-n-most.false))
 
-shared-slice-read-age : tie.Need-shared-slice-read-age
-shared-slice-read-age c = let x = c.before.before in omega (arith, x.requires.0, x.requires.1.1)
+pub returns-then-age-lt3600 : goal.returns-then-age-lt3600
+returns-then-age-lt3600 c =
+    let a = c.args in
+    let h = past a.p.now a.n a.t c.requires.n_in_bounds c.requires.p_value (a.n - a.most) (omega (arith, c.requires.most_nonzero, c.if-n-most.false)) in
+    omega (arith, h, told a.p.now a.n a.t c.requires.n_in_bounds c.requires.p_value a.most c.requires.most_nonzero (omega (arith, c.if-n-most.false)))
 
-sub-age : tie.Need-overflow-sub-age
-sub-age c =
-    let x = c.before.before in
-    let a = x.args in
-    past a.p.now a.n a.t x.requires.0 x.requires.1.0 _ (omega (arith, x.requires.1.1, c.before.if1.false))
-
-sub-result : tie.Need-overflow-sub-result
-sub-result c = search rules
-
-returns-2 : tie.Need-returns-2
-returns-2 c =
-    let x = c.before.before.before in
-    let a = x.args in
-    let h = past a.p.now a.n a.t x.requires.0 x.requires.1.0 (a.n - a.most) (omega (arith, x.requires.1.1, c.before.before.if1.false)) in
-    omega (arith, h, told a.p.now a.n a.t x.requires.0 x.requires.1.0 a.most x.requires.1.1 (omega (arith, c.before.before.if1.false)))
-
-returns-3 : tie.Need-returns-3
-returns-3 c =
-    let x = c.before.before.before in
-    let a = x.args in
-    omega (arith, told a.p.now a.n a.t x.requires.0 x.requires.1.0 a.most x.requires.1.1 (omega (arith, c.before.before.if1.false)))
-
-pub full_for_spec : {M : Type 1} → statement M
-full_for_spec =
-    tie.close
-    (tie.spec
-    returns
-    sub-i
-    mul-age
-    shared-slice-read-age
-    sub-age
-    sub-result
-    returns-2
-    returns-3)
+pub returns-else-age-lt3600 : goal.returns-else-age-lt3600
+returns-else-age-lt3600 c =
+    let a = c.args in
+    omega (arith, told a.p.now a.n a.t c.requires.n_in_bounds c.requires.p_value a.most c.requires.most_nonzero (omega (arith, c.if-n-most.false)))
