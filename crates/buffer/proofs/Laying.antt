@@ -134,7 +134,7 @@ module _ (f : Facts) (rs : List (List ℕ)) (s : Shaped f rs) where
 
   pub count_at : (k : ℕ) → k < 5 → get_or (spread f rs) (LENGTHS + k) 0 ≡ length (get_or rs k [])
   unfolding segments
-  count_at k h = get 15 k h ∙ ListN.get_d_map length rs k []
+  count_at k h = get 15 k h ∙ ListN.get_or-map length rs k []
 
   pub row_at : (k : ℕ) → k < 5 → row (spread f rs) k ≡ get_or rs k []
   row_at k h =
