@@ -22,20 +22,20 @@ returns : tie.Need-returns
 returns c =
     let d = c.before.before in
     let a = d.before.before.before.before.before.args in
-    no_part a.long a.n a.card a.own_val _ d.before.before.ruling-file.ensures d.before.is-good-or-absent.ensures d.is-file.ensures c.before.if1.true _ refl refl
+    no_part a.long a.n a.card a.own _ d.before.before.ruling-file.ensures d.before.is-good-or-absent.ensures d.is-file.ensures c.before.if1.true _ refl refl
 
 slice-aggregate-result-2 : tie.Need-slice-aggregate-result-2
 slice-aggregate-result-2 c =
     let d = c.before.before in
     let s = d.before.before.before.before.before in
     let a = s.args in
-    sym (length-take-le _ _ (long_enough a.long a.n a.card a.own_val _ d.before.before.ruling-file.ensures d.before.is-good-or-absent.ensures d.is-file.ensures s.requires c.before.if1.false))
+    sym (length-take-le _ _ (long_enough a.long a.n a.card a.own _ d.before.before.ruling-file.ensures d.before.is-good-or-absent.ensures d.is-file.ensures s.requires c.before.if1.false))
 
 returns-2 : tie.Need-returns-2
 returns-2 c =
     let d = c.before.before in
     let a = d.before.before.before.before.before.args in
-    is_part a.long a.n a.card a.own_val _ d.before.before.ruling-file.ensures d.before.is-good-or-absent.ensures d.is-file.ensures c.before.if1.false _ refl refl
+    is_part a.long a.n a.card a.own _ d.before.before.ruling-file.ensures d.before.is-good-or-absent.ensures d.is-file.ensures c.before.if1.false _ refl refl
 
 pub part_spec : {M : Type 1} → statement M
 part_spec =

@@ -5,17 +5,10 @@ use lib.Dec.{eqb}
 use Rattle.rules.specs.Causes.{printed, both}
 use Rattle.causes.proofs.Causes.{tells_both}
 use borrow.Author.Rules.{rules}
-use Rattle.causes.proofs.both.Statement.{statement}
-use Rattle.causes.proofs.both.Tie as tie
+use Rattle.causes.proofs.both.Goals as goal
 
-entry-requires : tie.Need-entry-requires
-entry-requires c κs = search rules
-
-returns : tie.Need-returns
+pub returns : goal.returns
 unfolding both
 returns c =
-    let a = c.before.args in
+    let a = c.args in
     ap (λ (e : ℕ). eqb e 100) c.entry.ensures ∙ tells_both (printed a.column a.cause).action
-
-pub both_spec : {M : Type 1} → statement M
-both_spec = tie.close (tie.spec entry-requires returns)

@@ -1,0 +1,10 @@
+-- `causes::mm_error` meets its contract. Assumes nothing.
+use mathlib.Core.Path.{refl}
+use Rattle.causes.specs.Tables.{means}
+use Rattle.causes.proofs.Table.{errs}
+use borrow.Author.Rules.{rules}
+use Rattle.causes.proofs.mm_error.Goals as goal
+
+pub returns : goal.returns
+unfolding means
+returns c = errs 0 _ _ c.at.ensures refl

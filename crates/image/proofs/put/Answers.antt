@@ -1,0 +1,21 @@
+-- `image::put` meets its contract: four stores. Assumes nothing.
+use lib.ListN.{length-set}
+use Rattle.image.proofs.Imaging.{stores}
+use native.Mathlib.Omega.{arith}
+use borrow.Author.Rules.{rules}
+use Rattle.image.proofs.put.Goals as goal
+
+pub bounds-out-at-2 : goal.bounds-out-at-2
+bounds-out-at-2 c = simp length-set (omega arith)
+
+pub bounds-out-at-3 : goal.bounds-out-at-3
+bounds-out-at-3 c = simp length-set (omega arith)
+
+pub bounds-out-at-4 : goal.bounds-out-at-4
+bounds-out-at-4 c = simp length-set (omega arith)
+
+pub shape_of-out : goal.shape_of-out
+shape_of-out c = simp length-set
+
+pub returns : goal.returns
+returns c = stores c.args.out.now c.args.at _ _ _ _

@@ -1,0 +1,16 @@
+-- `image::read` meets its contract: what was read, and the numbers of the bytes that are left, are all the numbers. Assumes nothing.
+use Prim.Native.Nat.{◌≤◌, ◌*◌, ◌-◌}
+use mathlib.Core.Path.{◌≡◌, refl}
+use lib.ListN.{length, take, drop, length-set}
+use mathlib.Core.List.{◌++◌}
+use Rattle.image.specs.Image.{numbers_of}
+use Rattle.image.proofs.Imaging.{read_next, read_end}
+use native.Mathlib.Omega.{arith}
+use borrow.Author.Rules.{rules}
+use Rattle.image.proofs.read.Given as goal
+
+abbrev pub invariant-loop-i : goal.invariant-loop-i
+invariant-loop-i l = (l.i ≤ length l.numbers) × ((length l.numbers ≡ length l.initial.numbers) × (take l.i l.numbers ++ numbers_of (drop (4 * l.i) l.bytes) ≡ numbers_of l.bytes))
+
+abbrev pub decreases-loop-i : goal.decreases-loop-i
+decreases-loop-i l = length l.numbers - l.i
