@@ -2,11 +2,7 @@
 use mathlib.Core.List.{[], ◌∷◌}
 use lib.Dec.{eqb}
 use Rattle.rules.proofs.Among.{tests_among}
-use Rattle.clock.proofs.refused.Statement.{statement}
-use Rattle.clock.proofs.refused.Tie as tie
+use Rattle.clock.proofs.refused.Goals as goal
 
-returns : tie.Need-returns
+pub returns : goal.returns
 returns c = let n = c.args.n in tests_among (eqb n 1) n (2 ∷ 3 ∷ 4 ∷ 5 ∷ [])
-
-pub refused_spec : {M : Type 1} → statement M
-refused_spec = tie.close (tie.spec returns)
