@@ -1,5 +1,6 @@
 // Decimals out of bytes, and bytes out of decimals: only this crate knows what a digit is. Assumes nothing.
 #![tactic(auto)]
+
 ghost use Rattle.std.specs.Prelude.{◌≡◌, ◌+◌, ◌≤◌, length, drop};
 ghost use Rattle.std.proofs.lemmas.List.Edits.{sets};
 ghost use Rattle.text.specs.Printed.{print_num, print_two};
