@@ -27,6 +27,7 @@ fn digit(b: u8) -> u64
 }
 
 // The decimal at a place, up to `most`, and the place after it. A 0 stands alone; a number above `most` is nothing.
+#[tactic(auto, using(crate::proofs::NumberLaws::num_zero))]
 pub fn decimal(line: &[u8], at: usize, most: u64) -> Num
     ensures { (part_of line.now result ≡ num most (drop at line.now)) × (place_of result ≤ length line.now) × (value_of result ≤ most) }
 {
