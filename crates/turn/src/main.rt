@@ -24,7 +24,8 @@ fn answer(bytes: &[u8], out: &mut [u8]) -> usize
     image::read(bytes, &mut old);
     let mut state = [0u32; places::SIZE];
     let a = turning::turn(&old, &mut state);
-    if a.number != 0 {
+    let refused = a.number != 0;
+    if refused {
         return 0;
     }
     image::write(&state, out);
