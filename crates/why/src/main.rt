@@ -34,7 +34,8 @@ fn line(out: &mut [u8], at: usize, stands: bool, n: u32, time: u32) -> usize
     if !stands {
         return at;
     }
-    if n == 10 {
+    let back_off = n == 10;
+    if back_off {
         let next = text::put(out, at, n);
         out[next] = b'\n';
         return next + 1;
