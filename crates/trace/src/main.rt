@@ -85,7 +85,8 @@ fn arrived(
     ensures more_value { result.more ≡ (not (eqb n 0) && result.sent) }
     ensures turned { Turned c.skip c.held buf.old (slice c.held (c.held + n) buf.old) state.old result buf.new state.new }
 {
-    if n == 0 {
+    let ended = n == 0;
+    if ended {
         let fill = answering::finish(state, buf, out, c);
         let sent = rt.stdout().write_all(&out[0..fill]).is_ok();
         return Carry {
