@@ -2,7 +2,10 @@
 // end first, and then records of 40 bytes: which of the three, how long a buffer to judge, and six places with a new number for each. For
 // each record it writes 1 for a good buffer and 0 for a bad one. A place of 1,400 or more is passed over.
 #![tactic(auto)]
+
 ghost use Rattle.std.specs.Prelude.{◌≡◌, ◌+◌, ◌*◌, ◌≤◌, ◌<◌, length};
+
+use std::io;
 
 fn wide(x: u8) -> u32
     ensures { result < 256 }
@@ -77,18 +80,19 @@ fn case(bases: &[u8], edits: &[u8]) -> u8
     judged(&s, small(edits, 2))
 }
 
-fn main() {
+fn main(rt: HostRuntime) -> io::Result<()> {
     let mut bases = [0u8; 16800];
-    io::read_full(libc::STDIN_FILENO, &mut bases);
+    host::read_full(&mut rt.stdin(), &mut bases)?;
     let mut record = [0u8; 40];
     let mut left: u32 = 1000000;
     while left > 0 {
-        let n = io::read_full(libc::STDIN_FILENO, &mut record);
+        let n = host::read_full(&mut rt.stdin(), &mut record)?;
         if n < 40 {
-            return;
+            return Ok(());
         }
         let line = [case(&bases, &record), b'\n'];
-        io::write_all(libc::STDOUT_FILENO, &line);
+        rt.write_all(&line)?;
         left -= 1;
     }
+    Ok(())
 }

@@ -3,11 +3,12 @@
 // What is no record is told on standard error, with the number of its slot. Of an area of another
 // length nothing is printed.
 #![tactic(auto)]
+
 ghost use Rattle.std.specs.Prelude.{◌≡◌, ◌++◌, ◌+◌, ◌≤◌, ◌<◌, length, take};
 ghost use Rattle.listed.specs.Slots.{torn_at, held, held_by, size_of, line_at, note_at, told, lines_of, notes_of};
 
-use libc::{STDERR_FILENO, STDIN_FILENO, STDOUT_FILENO};
 use listing::Line;
+use std::io;
 
 // What a slot holds: 255s, a torn record, a whole one, whose line has so many bytes, or none of
 // these.
@@ -129,20 +130,19 @@ fn notes(area: &[u8], out: &mut [u8]) -> usize
     at
 }
 
-fn main() {
+fn main(rt: HostRuntime) -> io::Result<()> {
     let mut area = [0u8; journal::AREA + 1];
-    let n = io::read_full(STDIN_FILENO, &mut area);
+    let n = host::read_full(&mut rt.stdin(), &mut area)?;
     if n != journal::AREA {
-        io::write_all(STDERR_FILENO, b"journal: an area has 65536 bytes\n");
-        return;
+        return rt.stderr().write_all(b"journal: an area has 65536 bytes\n");
     }
     let mut out = [0u8; journal::AREA];
     let told = lines(&area[..n], &mut out);
-    if io::write_all(STDOUT_FILENO, &out[..told]) {
+    if rt.stdout().write_all(&out[..told]).is_ok() {
         let mut wrong = [0u8; 12288];
         let more = notes(&area[..n], &mut wrong);
-        io::write_all(STDERR_FILENO, &wrong[..more]);
-        return;
+        return rt.stderr().write_all(&wrong[..more]);
     }
-    io::write_all(STDERR_FILENO, b"journal: the lines could not be written\n");
+    rt.stderr()
+        .write_all(b"journal: the lines could not be written\n")
 }

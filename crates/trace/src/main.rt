@@ -5,6 +5,7 @@
 // input. With `--state FILE` the buffer after the last line is written to FILE: 1,331 numbers of
 // four bytes, the lowest first.
 #![tactic(auto)]
+
 ghost use Rattle.std.specs.Prelude.{◌+◌, ◌≤◌, ◌≡◌, not, ◌&&◌, length, eqb};
 ghost use Rattle.std.proofs.Math.Seq.{slice};
 ghost use Rattle.buffer.specs.Places.{SIZE};
@@ -13,10 +14,20 @@ ghost use Rattle.answering.specs.Cut.{Answered, Turned, SomeTurned, Whole};
 
 use answering::{Carry, Left};
 use buffer::places;
-use libc::{STDERR_FILENO, STDIN_FILENO, STDOUT_FILENO};
+use std::env::Env;
+use std::fs::{File, OpenOptions};
+use std::io::{Read, Write};
+use std::{fs, io};
 
 // Cuts the whole input into lines, answers each, and writes the answers out.
-fn all(state: &mut [u32], buf: &[u8], end: usize, out: &mut [u8], c: Carry) -> Left
+fn all(
+    rt: &HostRuntime,
+    state: &mut [u32],
+    buf: &[u8],
+    end: usize,
+    out: &mut [u8],
+    c: Carry,
+) -> Left
     requires known { Known c.known state.old }
     requires out_len { length out.old ≡ 65536 }
     requires held_le_end { (c.held ≤ end) × (end ≤ length buf.now) }
@@ -34,7 +45,7 @@ fn all(state: &mut [u32], buf: &[u8], end: usize, out: &mut [u8], c: Carry) -> L
     while left.place < end && left.sent {
         let cut = answering::cut(state, buf, end, out, left);
         let fill = cut.fill;
-        let sent = io::write_all(STDOUT_FILENO, &out[0..fill]);
+        let sent = rt.stdout().write_all(&out[0..fill]).is_ok();
         left = Left {
             start: cut.start,
             place: cut.place,
@@ -47,17 +58,26 @@ fn all(state: &mut [u32], buf: &[u8], end: usize, out: &mut [u8], c: Carry) -> L
     left
 }
 
-// Reads once; 0 at the end of the input.
-fn take(buf: &mut [u8]) -> usize
+// Reads once; 0 at the end of the input, and where it cannot be read.
+fn take(rt: &HostRuntime, buf: &mut [u8]) -> usize
     ensures { result ≤ length buf.old }
 {
-    let got = libc::read(STDIN_FILENO, buf);
-    io::count(got, buf)
+    match rt.stdin().read(buf) {
+        Ok(n) => n,
+        Err(_) => 0,
+    }
 }
 
 // Answers the lines of n bytes that came after those that are held; where none came the input has ended. It goes on while bytes come and all writes
 // go well.
-fn arrived(state: &mut [u32], buf: &mut [u8], n: usize, out: &mut [u8], c: Carry) -> Carry
+fn arrived(
+    rt: &HostRuntime,
+    state: &mut [u32],
+    buf: &mut [u8],
+    n: usize,
+    out: &mut [u8],
+    c: Carry,
+) -> Carry
     requires known { Known c.known state.old }
     requires n_in_bounds { c.held + n ≤ length buf.old }
     requires out_len { length out.old ≡ 65536 }
@@ -65,9 +85,10 @@ fn arrived(state: &mut [u32], buf: &mut [u8], n: usize, out: &mut [u8], c: Carry
     ensures more_value { result.more ≡ (not (eqb n 0) && result.sent) }
     ensures turned { Turned c.skip c.held buf.old (slice c.held (c.held + n) buf.old) state.old result buf.new state.new }
 {
-    if n == 0 {
+    let ended = n == 0;
+    if ended {
         let fill = answering::finish(state, buf, out, c);
-        let sent = io::write_all(STDOUT_FILENO, &out[0..fill]);
+        let sent = rt.stdout().write_all(&out[0..fill]).is_ok();
         return Carry {
             held: 0,
             skip: false,
@@ -76,12 +97,12 @@ fn arrived(state: &mut [u32], buf: &mut [u8], n: usize, out: &mut [u8], c: Carry
             sent,
         };
     }
-    let left = all(state, buf, c.held + n, out, c);
+    let left = all(rt, state, buf, c.held + n, out, c);
     answering::keep(buf, left)
 }
 
 // Reads once, and answers the lines that came.
-fn turn(state: &mut [u32], buf: &mut [u8], out: &mut [u8], c: Carry) -> Carry
+fn turn(rt: &HostRuntime, state: &mut [u32], buf: &mut [u8], out: &mut [u8], c: Carry) -> Carry
     requires known { Known c.known state.old }
     requires buf_len { length buf.old ≡ 65536 }
     requires out_len { length out.old ≡ 65536 }
@@ -90,13 +111,13 @@ fn turn(state: &mut [u32], buf: &mut [u8], out: &mut [u8], c: Carry) -> Carry
     ensures some_turned { SomeTurned c.skip c.held buf.old state.old result buf.new state.new }
 {
     let held = c.held;
-    let n = take(&mut buf[held..]);
-    arrived(state, buf, n, out, c)
+    let n = take(rt, &mut buf[held..]);
+    arrived(rt, state, buf, n, out, c)
 }
 
 // Answers the whole input, one read after the other; whether all of it was answered and written. A proved loop has to end, and nothing says that the
 // input does: so it counts its turns down from a number that no run uses up.
-fn run(state: &mut [u32], buf: &mut [u8], out: &mut [u8]) -> bool
+fn run(rt: &HostRuntime, state: &mut [u32], buf: &mut [u8], out: &mut [u8]) -> bool
     requires buf_len { length buf.old ≡ 65536 }
     requires out_len { length out.old ≡ 65536 }
     ensures { Whole result state.old state.new }
@@ -110,102 +131,123 @@ fn run(state: &mut [u32], buf: &mut [u8], out: &mut [u8]) -> bool
         sent: true,
     };
     while turns > 0 && c.more {
-        c = turn(state, buf, out, c);
+        c = turn(rt, state, buf, out, c);
         turns -= 1;
     }
     !c.more & c.sent
 }
 
 // The file could not be written: it is told why, and what was begun is taken away.
-fn spoiled(name: &[u8]) {
-    os::fail(name);
-    os::unlink(name);
+fn spoiled(rt: &HostRuntime, name: &[u8], why: io::Error) {
+    host::fail(&mut rt.stderr(), name, why);
+    if let Ok(path) = host::name_of(name) {
+        let _ = fs::remove_file(rt, path);
+    }
+}
+
+// A new file of that name, to be written; there is none so far.
+fn create(rt: &HostRuntime, name: &[u8]) -> io::Result<File> {
+    let path = host::name_of(name)?;
+    OpenOptions::new()
+        .write(true)
+        .create_new(true)
+        .open(rt, path)
+}
+
+// Writes the buffer to an open file, and sees it on the disk.
+fn fill(mut file: File, state: &[u32]) -> io::Result<()>
+    requires { length state.now ≡ SIZE }
+{
+    let mut bytes = [0u8; places::BYTES];
+    image::write(state, &mut bytes);
+    file.write_all(&bytes)?;
+    file.sync_all()
 }
 
 // The new file gets the name of the first n bytes of its own.
-fn give(name: &[u8], n: usize)
+fn give(rt: &HostRuntime, name: &[u8], n: usize) -> io::Result<()>
     requires { n ≤ length name.now }
 {
-    if os::rename(name, &name[..n]) < 0 {
-        spoiled(name);
-    }
+    fs::rename(rt, host::name_of(name)?, host::name_of(&name[..n])?)
 }
 
 // Writes the buffer to a new file, and then gives it the name of the first n bytes of its own.
-fn store(state: &[u32], name: &[u8], n: usize)
+fn store(rt: &HostRuntime, state: &[u32], name: &[u8], n: usize)
     requires state_len { length state.now ≡ SIZE }
     requires n_in_bounds { n ≤ length name.now }
 {
-    let fd = os::create(name);
-    if fd < 0 {
-        os::fail(name);
+    let file = match create(rt, name) {
+        Ok(file) => file,
+        Err(why) => {
+            host::fail(&mut rt.stderr(), name, why);
+            return;
+        }
+    };
+    if let Err(why) = fill(file, state) {
+        spoiled(rt, name, why);
         return;
     }
-    let mut bytes = [0u8; places::BYTES];
-    image::write(state, &mut bytes);
-    if !io::write_all(fd, &bytes) {
-        spoiled(name);
-        return;
+    if let Err(why) = give(rt, name, n) {
+        spoiled(rt, name, why);
     }
-    if libc::fsync(fd) < 0 {
-        spoiled(name);
-        return;
-    }
-    libc::close(fd);
-    give(name, n);
 }
 
 // Writes the buffer to the file that argument 2 names, by way of a new one beside it, FILE.new.
-fn save(state: &[u32])
+fn save(rt: &HostRuntime, state: &[u32])
     requires { length state.now ≡ SIZE }
 {
-    let mut name = io::buffer();
-    let n = os::arg(2, &mut name);
-    if os::errno() != 0 {
-        os::fail(b"trace: FILE");
-        return;
-    }
+    let mut name = [0u8; 4096];
+    let n = match rt.arg(2, &mut name) {
+        Ok(n) => n,
+        Err(why) => {
+            host::fail(&mut rt.stderr(), b"trace: FILE", host::no_arg(why));
+            return;
+        }
+    };
     let m = files::beside(&mut name, n);
     if m == 0 {
-        io::write_all(STDERR_FILENO, b"trace: FILE: the name is too long\n");
+        let _ = rt
+            .stderr()
+            .write_all(b"trace: FILE: the name is too long\n");
         return;
     }
-    store(state, &name[..m], n);
+    store(rt, state, &name[..m], n);
 }
 
 // Whether argument 1 is `--state`, with one more after it.
-fn saves() -> bool {
+fn saves(rt: &impl Env) -> bool {
     let mut word = [0u8; 7];
-    let n = os::arg(1, &mut word);
-    let whole = (os::errno() == 0) & (n == 7);
+    let whole = match rt.arg(1, &mut word) {
+        Ok(n) => n == 7,
+        Err(_) => false,
+    };
     let dashes = (word[0] == b'-') & (word[1] == b'-');
     let name = (word[2] == b's')
         & (word[3] == b't')
         & (word[4] == b'a')
         & (word[5] == b't')
         & (word[6] == b'e');
-    whole & dashes & name & (os::arg_count() == 3)
+    whole & dashes & name & host::has_arg(rt, 2) & !host::has_arg(rt, 3)
 }
 
-fn main() {
-    let keep = saves();
-    if !keep & (os::arg_count() > 1) {
-        io::write_all(STDERR_FILENO, b"trace [--state FILE]\n");
+fn main(rt: HostRuntime) {
+    let keep = saves(&rt);
+    if !keep & host::has_arg(&rt, 1) {
+        let _ = rt.stderr().write_all(b"trace [--state FILE]\n");
         return;
     }
     let mut state = [0u32; places::SIZE];
     let mut buf = [0u8; 65536];
     let mut out = [0u8; 65536];
-    let whole = run(&mut state, &mut buf, &mut out);
+    let whole = run(&rt, &mut state, &mut buf, &mut out);
     if !keep {
         return;
     }
     if !whole {
-        io::write_all(
-            STDERR_FILENO,
+        let _ = rt.stderr().write_all(
             b"trace: not all answers were written, and FILE is left as it was\n",
         );
         return;
     }
-    save(&state);
+    save(&rt, &state);
 }

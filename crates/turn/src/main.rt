@@ -3,12 +3,13 @@
 // to standard output, 1,331 numbers. Where it is no good state of version 1, nothing is written
 // there.
 #![tactic(auto)]
+
 ghost use Rattle.std.specs.Prelude.{◌≡◌, ◌≤◌, length, take};
 ghost use Rattle.buffer.specs.Places.{BYTES};
 ghost use Rattle.turn.specs.Turned.{turned_image};
 
 use buffer::places;
-use libc::{STDERR_FILENO, STDIN_FILENO, STDOUT_FILENO};
+use std::io;
 
 // Writes the bytes of what a state turns into, and answers how many: none where it is refused.
 fn answer(bytes: &[u8], out: &mut [u8]) -> usize
@@ -23,21 +24,21 @@ fn answer(bytes: &[u8], out: &mut [u8]) -> usize
     image::read(bytes, &mut old);
     let mut state = [0u32; places::SIZE];
     let a = turning::turn(&old, &mut state);
-    if a.number != 0 {
+    let refused = a.number != 0;
+    if refused {
         return 0;
     }
     image::write(&state, out);
     places::BYTES
 }
 
-fn main() {
+fn main(rt: HostRuntime) -> io::Result<()> {
     let mut bytes = [0u8; 4 * places::BASE + 1];
-    let n = io::read_full(STDIN_FILENO, &mut bytes);
+    let n = host::read_full(&mut rt.stdin(), &mut bytes)?;
     let mut out = [0u8; places::BYTES];
     let m = answer(&bytes[..n], &mut out);
     if m == 0 {
-        io::write_all(STDERR_FILENO, b"turn: no good state of version 1\n");
-        return;
+        return rt.stderr().write_all(b"turn: no good state of version 1\n");
     }
-    io::write_all(STDOUT_FILENO, &out[..m]);
+    rt.stdout().write_all(&out[..m])
 }

@@ -3,15 +3,19 @@
 // that stands and how many there are, then a line for each: the back-off's number, or a limit's
 // with the permit time that has to leave the hour. A refusal is its number and 0.
 #![tactic(auto)]
-ghost use Rattle.std.specs.Prelude.{◌≡◌, ◌++◌, ◌+◌, ◌≤◌, length, take};
+
+ghost use Rattle.std.specs.Prelude.{◌≡◌, ◌++◌, ◌+◌, ◌≤◌, length, take, IfOk};
 ghost use Rattle.std.proofs.lemmas.List.Edits.{sets};
 ghost use Rattle.text.specs.Number.{num, part_of, value_of};
 ghost use Rattle.rules.specs.Tables.{rules};
 ghost use Rattle.why.specs.Report.{line_if, lines_for, report, report_on, highest, whole_of, count_of};
 
 use buffer::places;
-use libc::{STDERR_FILENO, STDOUT_FILENO};
 use reasons::said::Why;
+use std::env::Env;
+use std::io::Read;
+use std::rt::Files;
+use std::{fs, io};
 use text::Num;
 
 // How many bytes of a file there are, or that it could not be read.
@@ -30,7 +34,8 @@ fn line(out: &mut [u8], at: usize, stands: bool, n: u32, time: u32) -> usize
     if !stands {
         return at;
     }
-    if n == 10 {
+    let back_off = n == 10;
+    if back_off {
         let next = text::put(out, at, n);
         out[next] = b'\n';
         return next + 1;
@@ -100,69 +105,73 @@ fn whole(word: &[u8]) -> Num
 }
 
 // Argument i as such a number.
-fn number(i: usize) -> Num
+fn number(rt: &impl Env, i: usize) -> Num
     ensures { value_of result ≤ highest }
 {
     let mut word = [0u8; 16];
-    let n = os::arg(i, &mut word);
-    if os::errno() != 0 {
-        return Num::Nothing;
+    match rt.arg(i, &mut word) {
+        Ok(n) => whole(&word[..n]),
+        Err(_) => Num::Nothing,
     }
-    whole(&word[..n])
+}
+
+// The first bytes of a file, as many as there is room for. A file that goes on has to be readable
+// there too.
+fn front(rt: &impl Files, name: &[u8], room: &mut [u8]) -> io::Result<usize>
+    ensures { IfOk result (λ n. n ≤ length room.new) }
+{
+    let mut file = fs::open(rt, host::name_of(name)?)?;
+    let got = host::read_full(&mut file, room)?;
+    let mut more = [0u8; 1];
+    file.read(&mut more)?;
+    Ok(got)
 }
 
 // The first bytes of the file that argument 1 names, as many as there is room for; or it is told why not.
-fn load(room: &mut [u8]) -> Loaded
+fn load(rt: &HostRuntime, room: &mut [u8]) -> Loaded
     ensures { count_of result ≤ length room.new }
 {
-    let mut path = io::buffer();
-    let n = os::arg(1, &mut path);
-    if os::errno() != 0 {
-        os::fail(b"why: STATE");
-        return Loaded::Not;
+    let mut path = [0u8; 4096];
+    let n = match rt.arg(1, &mut path) {
+        Ok(n) => n,
+        Err(why) => {
+            host::fail(&mut rt.stderr(), b"why: STATE", host::no_arg(why));
+            return Loaded::Not;
+        }
+    };
+    match front(rt, &path[..n], room) {
+        Ok(got) => Loaded::Bytes(got),
+        Err(why) => {
+            host::fail(&mut rt.stderr(), &path[..n], why);
+            Loaded::Not
+        }
     }
-    let fd = os::open_read(&path[..n]);
-    if fd < 0 {
-        os::fail(&path[..n]);
-        return Loaded::Not;
-    }
-    let got = io::read_full(fd, room);
-    let mut more = [0u8; 1];
-    let last = libc::read(fd, &mut more);
-    libc::close(fd);
-    if last < 0 {
-        os::fail(&path[..n]);
-        return Loaded::Not;
-    }
-    Loaded::Bytes(got)
 }
 
 // Reads the state, and prints what stands against request `kind` at `time`.
-fn say(time: u32, kind: u32) {
+fn say(rt: &HostRuntime, time: u32, kind: u32) -> io::Result<()> {
     let mut bytes = [0u8; places::BYTES + 1];
-    let Loaded::Bytes(n) = load(&mut bytes) else {
-        return;
+    let Loaded::Bytes(n) = load(rt, &mut bytes) else {
+        return Ok(());
     };
     let mut out = [0u8; 198];
     let told = answer(&bytes[..n], time, kind, &mut out);
-    io::write_all(STDOUT_FILENO, &out[..told]);
+    rt.stdout().write_all(&out[..told])
 }
 
-fn main() {
-    if os::arg_count() != 4 {
-        io::write_all(STDERR_FILENO, b"why STATE TIME REQUEST\n");
-        return;
+fn main(rt: HostRuntime) -> io::Result<()> {
+    if !host::has_arg(&rt, 3) | host::has_arg(&rt, 4) {
+        return rt.stderr().write_all(b"why STATE TIME REQUEST\n");
     }
-    let Num::At(time, _) = number(2) else {
-        io::write_all(STDERR_FILENO, b"why: TIME is no decimal up to 4294967295\n");
-        return;
+    let Num::At(time, _) = number(&rt, 2) else {
+        return rt
+            .stderr()
+            .write_all(b"why: TIME is no decimal up to 4294967295\n");
     };
-    let Num::At(kind, _) = number(3) else {
-        io::write_all(
-            STDERR_FILENO,
-            b"why: REQUEST is no decimal up to 4294967295\n",
-        );
-        return;
+    let Num::At(kind, _) = number(&rt, 3) else {
+        return rt
+            .stderr()
+            .write_all(b"why: REQUEST is no decimal up to 4294967295\n");
     };
-    say(time as u32, kind as u32);
+    say(&rt, time as u32, kind as u32)
 }
