@@ -1,0 +1,6 @@
+-- `backoff::store` meets its contract. Assumes nothing.
+use borrow.Author.Rules.{rules}
+use Rattle.backoff.proofs.store.Goals as goal
+
+pub returns : goal.returns
+returns c = cc

@@ -1,0 +1,14 @@
+-- `card::erase` meets its contract: the bytes passed are 0, the others as they were. Assumes nothing.
+use mathlib.Core.Path.{◌≡◌, refl, ◌∙◌}
+use mathlib.Core.List.{List, ◌++◌, append-nil}
+use Prim.Native.Nat.{ℕ, ◌≤◌, ◌-◌}
+use native.Mathlib.Omega.{arith}
+use lib.ListN.{length, drop, replicate, length-set, drop_of_length-le}
+use borrow.Author.Fill.{fill_more}
+use Rattle.card.proofs.erase.Given as goal
+
+abbrev pub invariant-loop-i : goal.invariant-loop-i
+invariant-loop-i l = (l.i ≤ 32) × ((length l.out ≡ 32) × (l.out ≡ replicate l.i 0 ++ drop l.i l.initial.out))
+
+abbrev pub decreases-loop-i : goal.decreases-loop-i
+decreases-loop-i l = 32 - l.i

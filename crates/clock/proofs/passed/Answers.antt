@@ -1,0 +1,10 @@
+-- `clock::passed` meets its contract. Assumes nothing.
+use Rattle.clock.proofs.Leaking.{rate_low}
+use borrow.Author.Rules.{rules}
+use Rattle.clock.proofs.passed.Goals as goal
+
+pub gone-requires : goal.gone-requires
+gone-requires c = rw c.rate.ensures (rate_low c.args.s.now c.requires.s_value c.args.i c.requires.i_bound)
+
+pub returns : goal.returns
+returns c = cc

@@ -1,0 +1,15 @@
+-- `journal::first_free` meets its contract. Assumes nothing.
+use Prim.Native.Nat.{◌≤◌, ◌+◌, ◌-◌}
+use mathlib.Core.Path.{◌≡◌}
+use lib.ListN.{drop}
+use native.Mathlib.Omega.{arith}
+use borrow.Author.Rules.{rules}
+use Rattle.journal.specs.Area.{slots, free}
+use Rattle.journal.proofs.Reading.{free_here, free_on, free_end}
+use Rattle.journal.proofs.first_free.Given as goal
+
+abbrev pub invariant-loop-i : goal.invariant-loop-i
+invariant-loop-i l = (l.i ≤ 512) × (l.i + free (drop l.i (slots l.area)) ≡ free (slots l.area))
+
+abbrev pub decreases-loop-i : goal.decreases-loop-i
+decreases-loop-i l = 512 - l.i

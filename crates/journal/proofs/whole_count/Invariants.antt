@@ -1,0 +1,15 @@
+-- `journal::whole_count` meets its contract. Assumes nothing.
+use Prim.Native.Nat.{◌≤◌, ◌+◌, ◌-◌}
+use mathlib.Core.Path.{◌≡◌}
+use lib.ListN.{length, drop}
+use native.Mathlib.Omega.{arith}
+use borrow.Author.Rules.{rules}
+use Rattle.journal.specs.Area.{slots, records, count}
+use Rattle.journal.proofs.Reading.{count_free, count_torn, count_on, count_end}
+use Rattle.journal.proofs.whole_count.Given as goal
+
+abbrev pub invariant-loop-i : goal.invariant-loop-i
+invariant-loop-i l = (l.i ≤ 512) × (l.i + length (records (drop l.i (slots l.area))) ≡ count l.area)
+
+abbrev pub decreases-loop-i : goal.decreases-loop-i
+decreases-loop-i l = 512 - l.i

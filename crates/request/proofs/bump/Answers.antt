@@ -1,0 +1,6 @@
+-- `request::bump` meets its contract. Assumes nothing.
+use borrow.Author.Rules.{rules}
+use Rattle.request.proofs.bump.Goals as goal
+
+pub returns : goal.returns
+returns c = cc

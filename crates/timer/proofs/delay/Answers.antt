@@ -1,0 +1,12 @@
+-- `timer::delay` meets its contract. Assumes nothing.
+use Prim.Native.Nat.{◌+◌, ◌*◌}
+use native.Mathlib.Nat.{mod-lt}
+use native.Mathlib.Omega.{arith}
+use borrow.Author.Rules.{rules}
+use Rattle.timer.proofs.delay.Goals as goal
+
+pub overflow_cast-result-2 : goal.overflow_cast-result-2
+overflow_cast-result-2 c = omega (arith, mod-lt c.args.x {m = 72 * c.args.t1 + 1} (omega arith))
+
+pub overflow_add-result : goal.overflow_add-result
+overflow_add-result c = omega (arith, mod-lt c.args.x {m = 72 * c.args.t1 + 1} (omega arith))
