@@ -2,6 +2,7 @@
 // pointer and a count, and each call gives back two numbers. include/dialchisel.h says what the
 // caller owes. Each call promises what the call that it hands on to does.
 #![tactic(auto)]
+
 ghost use Rattle.std.specs.Prelude.{◌≡◌};
 ghost use Rattle.rules.specs.Calls.{timed};
 ghost use Rattle.rules.specs.declared.Event.TheVariants.{Ask as ask, Outcome as outcome, Dropped as dropped, Tick as tick};

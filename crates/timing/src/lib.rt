@@ -1,5 +1,6 @@
 // What is timed or compared by itself, exported for the programs under bench/ and tests/. Firmware has no use for it.
 #![tactic(auto)]
+
 ghost use Rattle.std.specs.Prelude.{◌≡◌, true, ◌≤◌, ◌<◌, length, take};
 ghost use Rattle.mixing.specs.Mixing.{mixed};
 ghost use Rattle.rules.specs.Calls.{timed};

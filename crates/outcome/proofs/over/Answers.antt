@@ -1,0 +1,12 @@
+-- `outcome::over` meets its contract. Assumes nothing.
+use mathlib.Core.Path.{ap, ◌∙◌}
+use Prim.Native.Nat.{ℕ}
+use mathlib.Core.List.{List}
+use Rattle.outcome.specs.Outcome.{rested}
+use borrow.Author.Rules.{rules}
+use Rattle.outcome.proofs.over.Goals as goal
+
+pub returns : goal.returns
+returns c =
+    let a = c.args in
+    c.rest.ensures ∙ ap (λ (b : List ℕ). rested b a.i 0 a.m) c.advance.ensures

@@ -1,0 +1,6 @@
+-- `settings::calm_all` meets its contract. Assumes nothing.
+use borrow.Author.Rules.{rules}
+use Rattle.settings.proofs.calm_all.Goals as goal
+
+pub returns : goal.returns
+returns c = cc
