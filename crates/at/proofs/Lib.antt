@@ -2,5 +2,4 @@ pub mod LineLaws
 pub mod IntsLaws
 pub mod FlagsLaws
 pub mod ReadLaws
-pub mod Held
 pub mod RoundTrip

@@ -2,6 +2,7 @@
 // keeps the line and its place in it, read the name, move past it and read on. The reading itself
 // is done by functions on line and place. Assumes nothing.
 #![tactic(auto)]
+
 ghost use Rattle.std.specs.Prelude.{◌≡◌, ◌+◌, ◌<◌, ◌^◌, [], length, drop};
 ghost use Rattle.at.specs.Order.{listed, order_of, plain_order};
 ghost use Rattle.at.specs.Lines.{starts as startsOf, ends as endsOf, flag_of};

@@ -1,6 +1,7 @@
 // Numbers in a line of bytes, read from a place on: one after a space, or several with a byte
 // between them.
 #![tactic(auto)]
+
 ghost use Rattle.std.specs.Prelude.{◌≡◌, [], ◌≤◌, length, drop};
 ghost use Rattle.text.specs.Number.{part_of, place_of, value_of};
 ghost use Rattle.rows.specs.Rows.{begins as beginsOf, field as field_of, numbers as numbers_of, fields as fields_of, row_of};

@@ -1,5 +1,6 @@
 // Decimals out of bytes, and bytes out of decimals: only this crate knows what a digit is. Assumes nothing.
 #![tactic(auto)]
+
 ghost use Rattle.std.specs.Prelude.{◌≡◌, ◌+◌, ◌≤◌, length, drop};
 ghost use Rattle.std.proofs.lemmas.List.Edits.{sets};
 ghost use Rattle.text.specs.Printed.{print_num, print_two};
@@ -26,6 +27,7 @@ fn digit(b: u8) -> u64
 }
 
 // The decimal at a place, up to `most`, and the place after it. A 0 stands alone; a number above `most` is nothing.
+#[tactic(auto, using(crate::proofs::NumberLaws::num_zero))]
 pub fn decimal(line: &[u8], at: usize, most: u64) -> Num
     ensures { (part_of line.now result ≡ num most (drop at line.now)) × (place_of result ≤ length line.now) × (value_of result ≤ most) }
 {

@@ -1,0 +1,16 @@
+-- `text::digit` meets its contract. Assumes nothing.
+use borrow.Author.Tests.{lt-ltb, le-ltb}
+use Rattle.text.specs.Number.{digit_of}
+use Rattle.text.proofs.digit.Goals as goal
+
+pub returns-then-b-lt48 : goal.returns-then-b-lt48
+unfolding digit_of
+returns-then-b-lt48 c = simp (lt-ltb _ _ c.if-b-lt48.true)
+
+pub returns-then-b-gt57 : goal.returns-then-b-gt57
+unfolding digit_of
+returns-then-b-gt57 c = simp (le-ltb _ _ c.if-b-lt48.false, lt-ltb _ _ c.if-b-gt57.true)
+
+pub returns : goal.returns
+unfolding digit_of
+returns c = simp (le-ltb _ _ c.if-b-lt48.false, le-ltb _ _ c.if-b-gt57.false)

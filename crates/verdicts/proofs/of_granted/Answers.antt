@@ -1,0 +1,13 @@
+-- `verdicts::of_granted` meets its contract. Assumes nothing.
+use mathlib.Core.Path.{refl}
+use Rattle.rules.specs.declared.Event.TheVariants.{Outcome as outcome}
+use Rattle.rules.specs.declared.Outcome.TheVariants.{Granted as granted}
+use Rattle.rules.specs.Rules.{refusal, in_range, stands, verdict}
+use Rattle.verdicts.proofs.Verdicts.{checks_only}
+use borrow.Author.Rules.{rules}
+use Rattle.verdicts.proofs.of_granted.Goals as goal
+
+pub returns : goal.returns
+unfolding refusal in_range stands verdict
+returns c =
+    checks_only c.args.s.now c.requires.s_value c.args.t (outcome c.args.service granted) c.checks.result c.checks.ensures refl
