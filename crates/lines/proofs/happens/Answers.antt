@@ -1,0 +1,6 @@
+-- `lines::happens` meets its contract. Assumes nothing.
+use borrow.Author.Rules.{rules}
+use Rattle.lines.proofs.happens.Goals as goal
+
+pub returns : goal.returns
+returns c = rw c.event.ensures at c.happen_in.ensures
