@@ -2,6 +2,7 @@
 // front to back over bytes of 255, a byte with each store, and its slot is filled again from the
 // back. Nothing here knows what a record means.
 #![tactic(auto)]
+
 ghost use Rattle.std.specs.Prelude.{◌≡◌, true, false, ◌+◌, ◌*◌, ◌-◌, ◌≤◌, ◌<◌, ◌++◌, length, take, drop, set, replicate};
 ghost use Rattle.journal.specs.Area.{slots, slot, written, filled, erased, free, count, survey, Appends};
 
@@ -122,6 +123,7 @@ pub fn record(area: &[u8], i: usize) -> &[u8]
 }
 
 // How many whole records stand at the front.
+#[tactic(auto, using(crate::proofs::Reading::count_free, crate::proofs::Reading::count_torn, crate::proofs::Reading::count_on, crate::proofs::Reading::count_end))]
 pub fn whole_count(area: &[u8]) -> usize
     requires { length area.now ≡ 65536 }
     ensures { result ≡ count area.now }

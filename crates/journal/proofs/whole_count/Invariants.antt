@@ -2,10 +2,7 @@
 use Prim.Native.Nat.{◌≤◌, ◌+◌, ◌-◌}
 use mathlib.Core.Path.{◌≡◌}
 use lib.ListN.{length, drop}
-use native.Mathlib.Omega.{arith}
-use borrow.Author.Rules.{rules}
 use Rattle.journal.specs.Area.{slots, records, count}
-use Rattle.journal.proofs.Reading.{count_free, count_torn, count_on, count_end}
 use Rattle.journal.proofs.whole_count.Given as goal
 
 abbrev pub invariant-loop-i : goal.invariant-loop-i
