@@ -13,4 +13,4 @@ pub store-requires : goal.store-requires
 store-requires c = c.if-times-ne8.false
 
 pub returns : goal.returns
-returns c = let a = c.args in room_said a.state.now a.time a.kind a.times.now c.if-times-ne8.false c.why-found.result c.why-found.ensures (omega (arith, c.if-found-ne0.false)) c.store.ensures
+returns c = let a = c.args in room_said a.state.now a.time a.kind a.times.now c.if-times-ne8.false c.why-found.result c.why-found.ensures (omega arith) c.store.ensures

@@ -16,11 +16,11 @@ send-requires c = laid_shape (laid_moved c.args.s.now c.requires.s_value c.args.
 pub returns-then-n-eq0 : goal.returns-then-n-eq0
 returns-then-n-eq0 c =
     let d = c.decide-a in
-    request_permits c.args.s.now c.requires.s_value c.args.t c.args.q d.result d.ensures (sym c.refused.ensures ∙ c.if-refused.false)
+    request_permits c.args.s.now c.requires.s_value c.args.t c.args.q d.result d.ensures (cc)
     c.if-n-eq0.true c.advance.ensures c.send.ensures
 
 pub returns : goal.returns
 returns c =
     let d = c.decide-a in
-    request_blocked c.args.s.now c.requires.s_value c.args.t c.args.q d.result d.ensures (sym c.refused.ensures ∙ c.if-refused.false)
+    request_blocked c.args.s.now c.requires.s_value c.args.t c.args.q d.result d.ensures (cc)
     c.if-n-eq0.false c.advance.ensures c.tally.ensures
