@@ -2,6 +2,7 @@
 // cut at each LF, and what each line is answered goes to another room. Nothing is read or written
 // here.
 #![tactic(auto)]
+
 ghost use Rattle.std.specs.Prelude.{◌+◌, ◌-◌, ◌≤◌, ◌<◌, ◌≡◌, [], ◌++◌, length, take};
 ghost use Rattle.std.proofs.Math.Seq.{slice};
 ghost use Rattle.answering.specs.Known.{Known};

@@ -1,6 +1,7 @@
 // Names of files beside one another: that of a new file, which is to take another's place, is made
 // of the other's. Nothing here opens a file.
 #![tactic(auto)]
+
 ghost use Rattle.files.specs.Beside.{Beside};
 
 // Puts `.new` after the name in the first n bytes of the room, and answers the length of the two;

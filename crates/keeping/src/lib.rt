@@ -2,6 +2,7 @@
 // appended with their answer, then carried out, then answered. The area of the journal is lent
 // after the state. A refusal changes nothing, nor does 6, where the journal is full.
 #![tactic(auto)]
+
 ghost use Rattle.std.specs.Prelude.{◌≡◌, true, ◌≤◌, length, get_or};
 ghost use Rattle.rules.specs.declared.Event.TheVariants.{Ask as ask, Outcome as outcome, Dropped as dropped, Tick as tick};
 ghost use Rattle.rules.specs.declared.Outcome.TheVariants.{Granted as granted, Silent as silent, Rejected as rejected};

@@ -1,6 +1,7 @@
 // A record of the journal as a trace line with its answer: document 01's letter and fields, then
 // the two numbers that the gate answered, and LF. What is the record of no call has no line.
 #![tactic(auto)]
+
 ghost use Rattle.std.specs.Prelude.{◌≡◌, [], ◌∷◌, ◌++◌, ◌≢◌, ◌+◌, ◌-◌, ◌*◌, ◌≤◌, length, get_or, take};
 ghost use Rattle.std.proofs.lemmas.List.Edits.{sets};
 ghost use Rattle.image.specs.Image.{image_of};

@@ -1,6 +1,7 @@
 // AT lines with a journal: read and answered by the line alone, then appended with the answer, then
 // obeyed. The area of the journal is lent after the state.
 #![tactic(auto)]
+
 ghost use Rattle.std.specs.Prelude.{◌≡◌, true, ◌≤◌, length};
 ghost use Rattle.buffer.specs.Places.{SIZE};
 ghost use Rattle.buffer.specs.Good.{good};

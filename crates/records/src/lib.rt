@@ -1,6 +1,7 @@
 // A call and its answer as a record of 128 bytes, written and read. A timed call is a letter and
 // its numbers, as `calls` has them; an AT line is its bytes. Nothing here knows what a call does.
 #![tactic(auto)]
+
 ghost use Rattle.std.specs.Prelude.{◌≡◌, ◌++◌, ◌+◌, ◌*◌, ◌≤◌, length, take, drop, replicate};
 ghost use Rattle.image.specs.Image.{image_of};
 ghost use Rattle.records.specs.Records.{packed, types, encoded, longest_line, numbers_in, same};

@@ -2,6 +2,7 @@
 // a copy of the image before anything is written; then a torn record's slot is filled, from the
 // back, and then the state is written.
 #![tactic(auto)]
+
 ghost use Rattle.std.specs.Prelude.{◌≡◌, true, ◌≤◌, length, get_or, take, drop};
 ghost use Rattle.std.proofs.Math.Option.{some};
 ghost use Rattle.buffer.specs.Places.{SIZE};

@@ -1,11 +1,6 @@
 -- `answering::cut` meets its contract. Assumes nothing.
 use Rattle.answering.proofs.Cutting.{cut_none, cut_on}
-use Rattle.answering.specs.Cut.{Cut}
-use borrow.Author.Tests.{leb-true, leb-false}
-use Rattle.answering.specs.Known.{Known}
-use Prim.Native.Nat.{◌≤◌, ◌+◌, ◌*◌, ◌-◌}
-use mathlib.Core.Path.{◌≡◌, refl}
-use lib.ListN.{length}
+use mathlib.Core.Path.{refl}
 use native.Mathlib.Omega.{arith}
 use Rattle.answering.proofs.cut.Goals as goal
 

@@ -3,7 +3,6 @@ use mathlib.Core.Path.{sym, ◌∙◌}
 use native.Mathlib.Omega.{arith}
 use lib.Seq.{length-take-le}
 use Rattle.answering.proofs.Cutting.{last_none, last_line}
-use borrow.Author.Rules.{rules}
 use Rattle.answering.proofs.finish.Goals as goal
 
 pub returns-then-held-skip : goal.returns-then-held-skip

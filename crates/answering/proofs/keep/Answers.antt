@@ -3,7 +3,6 @@ use mathlib.Core.Path.{refl}
 use native.Mathlib.Omega.{arith}
 use lib.Seq.{length-slice}
 use Rattle.answering.proofs.Cutting.{kept_skipped, kept_over, kept_line}
-use borrow.Author.Rules.{rules}
 use Rattle.answering.proofs.keep.Goals as goal
 
 pub returns-then-p : goal.returns-then-p

@@ -4,7 +4,6 @@ use Rattle.answering.proofs.Cutting.{goes_on, ends_line}
 use Prim.Native.Nat.{◌-◌}
 use lib.ListN.{take, drop}
 use native.Mathlib.Omega.{arith}
-use borrow.Author.Rules.{rules}
 use Rattle.answering.proofs.next.Goals as goal
 
 pub returns-then-buf-place-eq10 : goal.returns-then-buf-place-eq10

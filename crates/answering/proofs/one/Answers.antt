@@ -2,7 +2,6 @@
 use Rattle.answering.proofs.Cutting.{room_left, told_line, line_counted, line_left, line_written}
 use Rattle.lines.specs.Line.{print_of, printed_wrong}
 use Rattle.lines.proofs.Staying.{stays_good}
-use Prim.Native.Nat.{◌-◌}
 use mathlib.Core.Path.{sym, ◌∙◌}
 use native.Mathlib.Omega.{arith}
 use borrow.Author.Rules.{rules}

@@ -1,13 +1,9 @@
 -- `answering::shift` meets its contract: the bytes are moved one after the other. Assumes nothing.
 use Rattle.answering.proofs.Cutting.{nothing_yet, moved_one, moved_rest}
-use lib.Seq.{slice}
-use lib.ListN.{take, drop, length-set}
+use lib.ListN.{length-set}
 use native.Mathlib.Omega.{arith}
 use mathlib.Core.Path.{refl}
-use Prim.Native.Nat.{◌≤◌, ◌-◌}
 use mathlib.Core.Path.{◌≡◌}
-use lib.ListN.{length}
-use borrow.Author.Rules.{rules}
 use Rattle.answering.proofs.shift.Goals as goal
 
 pub loop-i-init : goal.loop-i-init

@@ -1,7 +1,6 @@
 -- `files::beside` meets its contract: four stores, or none. Assumes nothing.
 use native.Mathlib.Omega.{arith}
 use lib.ListN.{length-set}
-use borrow.Author.Rules.{rules}
 use Rattle.files.proofs.Naming.{stores, no_room, named}
 use Rattle.files.proofs.beside.Goals as goal
 

@@ -1,10 +1,6 @@
 -- `journal::all_erased` meets its contract. Assumes nothing.
-use Prim.Native.Nat.{◌≤◌, ◌-◌}
-use mathlib.Core.Path.{◌≡◌, refl, sym, ◌∙◌}
-use lib.ListN.{length, drop}
+use mathlib.Core.Path.{refl, sym, ◌∙◌}
 use native.Mathlib.Omega.{arith}
-use borrow.Author.Rules.{rules}
-use Rattle.journal.specs.Area.{erased}
 use Rattle.journal.proofs.Reading.{erased_bad, erased_on, erased_end}
 use Rattle.journal.proofs.all_erased.Goals as goal
 

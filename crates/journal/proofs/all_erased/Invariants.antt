@@ -1,11 +1,8 @@
 -- `journal::all_erased` meets its contract. Assumes nothing.
 use Prim.Native.Nat.{◌≤◌, ◌-◌}
-use mathlib.Core.Path.{◌≡◌, refl, sym, ◌∙◌}
+use mathlib.Core.Path.{◌≡◌}
 use lib.ListN.{length, drop}
-use native.Mathlib.Omega.{arith}
-use borrow.Author.Rules.{rules}
 use Rattle.journal.specs.Area.{erased}
-use Rattle.journal.proofs.Reading.{erased_bad, erased_on, erased_end}
 use Rattle.journal.proofs.all_erased.Given as goal
 
 abbrev pub invariant-loop-i : goal.invariant-loop-i

@@ -1,9 +1,7 @@
 -- `journal::append` meets its contract. Assumes nothing.
 use Rattle.journal.proofs.Reading.{free_le}
 use Rattle.journal.proofs.Appending.{no_slot, a_slot}
-use Prim.Native.Nat.{◌-◌}
 use native.Mathlib.Omega.{arith}
-use borrow.Author.Rules.{rules}
 use Rattle.journal.proofs.append.Goals as goal
 
 pub returns-then-at-eq512 : goal.returns-then-at-eq512

@@ -2,14 +2,12 @@
 use Rattle.journal.proofs.Bytes.{back_suc}
 use native.Mathlib.Numerals.{add-one}
 use lib.Seq.{take_all}
-use lib.ListN.{replicate}
-use mathlib.Core.List.{◌++◌, append-nil}
+use mathlib.Core.List.{append-nil}
 use Prim.Native.Nat.{suc}
-use Prim.Native.Nat.{◌≤◌, ◌+◌, ◌-◌}
+use Prim.Native.Nat.{◌+◌, ◌-◌}
 use mathlib.Core.Path.{◌≡◌, sym, ◌∙◌}
-use lib.ListN.{length, take}
+use lib.ListN.{take}
 use native.Mathlib.Omega.{arith}
-use borrow.Author.Rules.{rules}
 use Rattle.journal.proofs.back.Goals as goal
 
 pub loop-k-init : goal.loop-k-init

@@ -1,15 +1,9 @@
 -- `journal::back` meets its contract. Assumes nothing.
-use Rattle.journal.proofs.Bytes.{back_suc}
-use native.Mathlib.Numerals.{add-one}
-use lib.Seq.{take_all}
 use lib.ListN.{replicate}
-use mathlib.Core.List.{◌++◌, append-nil}
-use Prim.Native.Nat.{suc}
-use Prim.Native.Nat.{◌≤◌, ◌+◌, ◌-◌}
-use mathlib.Core.Path.{◌≡◌, sym, ◌∙◌}
+use mathlib.Core.List.{◌++◌}
+use Prim.Native.Nat.{◌≤◌, ◌-◌}
+use mathlib.Core.Path.{◌≡◌}
 use lib.ListN.{length, take}
-use native.Mathlib.Omega.{arith}
-use borrow.Author.Rules.{rules}
 use Rattle.journal.proofs.back.Given as goal
 
 abbrev pub invariant-loop-k : goal.invariant-loop-k

@@ -1,12 +1,8 @@
 -- `journal::erase` meets its contract. Assumes nothing.
 use Rattle.journal.proofs.Appending.{erase_next, erase_end}
-use lib.ListN.{replicate}
-use mathlib.Core.List.{◌++◌}
-use Prim.Native.Nat.{◌≤◌, ◌+◌, ◌-◌}
-use mathlib.Core.Path.{◌≡◌, refl}
-use lib.ListN.{length, take, drop, length-set}
+use mathlib.Core.Path.{refl}
+use lib.ListN.{length-set}
 use native.Mathlib.Omega.{arith}
-use borrow.Author.Rules.{rules}
 use Rattle.journal.proofs.erase.Goals as goal
 
 pub loop-i-init : goal.loop-i-init

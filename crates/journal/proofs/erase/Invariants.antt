@@ -1,12 +1,9 @@
 -- `journal::erase` meets its contract. Assumes nothing.
-use Rattle.journal.proofs.Appending.{erase_next, erase_end}
 use lib.ListN.{replicate}
 use mathlib.Core.List.{◌++◌}
-use Prim.Native.Nat.{◌≤◌, ◌+◌, ◌-◌}
-use mathlib.Core.Path.{◌≡◌, refl}
-use lib.ListN.{length, take, drop, length-set}
-use native.Mathlib.Omega.{arith}
-use borrow.Author.Rules.{rules}
+use Prim.Native.Nat.{◌≤◌, ◌-◌}
+use mathlib.Core.Path.{◌≡◌}
+use lib.ListN.{length, take, drop}
 use Rattle.journal.proofs.erase.Given as goal
 
 abbrev pub invariant-loop-i : goal.invariant-loop-i

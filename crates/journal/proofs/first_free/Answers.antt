@@ -1,10 +1,6 @@
 -- `journal::first_free` meets its contract. Assumes nothing.
-use Prim.Native.Nat.{◌≤◌, ◌+◌, ◌-◌}
 use mathlib.Core.Path.{◌≡◌}
-use lib.ListN.{drop}
 use native.Mathlib.Omega.{arith}
-use borrow.Author.Rules.{rules}
-use Rattle.journal.specs.Area.{slots, free}
 use Rattle.journal.proofs.Reading.{free_here, free_on, free_end}
 use Rattle.journal.proofs.first_free.Goals as goal
 

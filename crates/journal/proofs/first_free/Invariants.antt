@@ -2,10 +2,7 @@
 use Prim.Native.Nat.{◌≤◌, ◌+◌, ◌-◌}
 use mathlib.Core.Path.{◌≡◌}
 use lib.ListN.{drop}
-use native.Mathlib.Omega.{arith}
-use borrow.Author.Rules.{rules}
 use Rattle.journal.specs.Area.{slots, free}
-use Rattle.journal.proofs.Reading.{free_here, free_on, free_end}
 use Rattle.journal.proofs.first_free.Given as goal
 
 abbrev pub invariant-loop-i : goal.invariant-loop-i

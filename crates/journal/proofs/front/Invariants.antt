@@ -1,12 +1,8 @@
 -- `journal::front` meets its contract. Assumes nothing.
-use Rattle.journal.proofs.Bytes.{front_suc}
-use native.Mathlib.Numerals.{add-one}
 use mathlib.Core.List.{◌++◌}
-use Prim.Native.Nat.{◌≤◌, ◌+◌, ◌-◌}
-use mathlib.Core.Path.{◌≡◌, refl, ◌∙◌}
+use Prim.Native.Nat.{◌≤◌, ◌-◌}
+use mathlib.Core.Path.{◌≡◌}
 use lib.ListN.{length, take, drop}
-use native.Mathlib.Omega.{arith}
-use borrow.Author.Rules.{rules}
 use Rattle.journal.proofs.front.Given as goal
 
 abbrev pub invariant-loop-k : goal.invariant-loop-k

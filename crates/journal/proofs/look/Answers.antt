@@ -1,8 +1,6 @@
 -- `journal::look` meets its contract. Assumes nothing.
-use Prim.Native.Nat.{◌-◌}
 use mathlib.Core.Path.{sym, ◌∙◌}
 use native.Mathlib.Omega.{arith}
-use borrow.Author.Rules.{rules}
 use Rattle.journal.proofs.Reading.{look_full, look_clean, look_bad, look_torn, look_bad_2, count_le}
 use Rattle.journal.proofs.look.Goals as goal
 

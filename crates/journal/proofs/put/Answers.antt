@@ -1,9 +1,8 @@
 -- `journal::put` meets its contract. Assumes nothing.
 use lib.Seq.{set-get_or}
-use Prim.Native.Nat.{ℕ, ◌-◌}
+use Prim.Native.Nat.{ℕ}
 use mathlib.Core.Path.{sym, ap, ◌∙◌}
 use lib.ListN.{set}
-use borrow.Author.Rules.{rules}
 use Rattle.journal.proofs.put.Goals as goal
 
 pub returns-then-part-at : goal.returns-then-part-at

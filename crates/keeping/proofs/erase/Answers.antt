@@ -1,7 +1,5 @@
 -- `keeping::erase` meets its contract. Assumes nothing.
 use Rattle.keeping.proofs.Calling.{erase_short, erase_done}
-use Prim.Native.Nat.{◌-◌}
-use borrow.Author.Rules.{rules}
 use Rattle.keeping.proofs.erase.Goals as goal
 
 pub returns-then-area-ne-AREA : goal.returns-then-area-ne-AREA

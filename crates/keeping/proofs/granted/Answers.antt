@@ -1,9 +1,7 @@
 -- `keeping::granted` meets its contract. Assumes nothing.
 use Rattle.calls.specs.Letters.{how_many, event_of}
-use Prim.Native.Nat.{◌-◌}
 use mathlib.Core.Path.{refl}
 use native.Mathlib.Omega.{arith}
-use borrow.Author.Rules.{rules}
 use Rattle.keeping.proofs.granted.Goals as goal
 
 pub journaled-requires : goal.journaled-requires

@@ -4,10 +4,8 @@ use Rattle.records.specs.Records.{Noted, times, call_of}
 use Rattle.calls.specs.Letters.{event_of}
 use Rattle.clock.proofs.Saying.{known_good, known_bad}
 use Rattle.rules.specs.Calls.{answer}
-use Prim.Native.Nat.{◌-◌}
 use mathlib.Core.Path.{refl}
 use lib.ListN.{get_or}
-use borrow.Author.Rules.{rules}
 use mathlib.Core.Path.{ap}
 use mathlib.Core.Bool.{not}
 use Rattle.keeping.proofs.journaled.Goals as goal

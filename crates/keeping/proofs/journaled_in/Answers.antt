@@ -2,15 +2,12 @@
 use Rattle.keeping.proofs.Calling.{foreseen, journal_refused, journal_full, journal_done}
 use Rattle.records.specs.Records.{Noted, times}
 use Rattle.calls.specs.Letters.{event_of}
-use borrow.Author.Tests.{not-true, not-false}
 use Rattle.buffer.specs.Layout.{view}
 use Rattle.rules.specs.Rules.{ruling}
 use Rattle.rules.specs.Calls.{timed}
 use Rattle.rules.specs.declared.Event.{Event}
-use Prim.Native.Nat.{◌-◌}
 use mathlib.Core.Path.{sym, ap, ◌∙◌}
 use lib.ListN.{get_or}
-use borrow.Author.Rules.{rules}
 use Rattle.keeping.proofs.journaled_in.Goals as goal
 
 pub returns-then-refused : goal.returns-then-refused

@@ -1,7 +1,6 @@
 -- `keeping::keep` meets its contract. Assumes nothing.
 use Rattle.records.proofs.Records.{spelled}
 use Rattle.calls.proofs.Letters.{many_few}
-use Prim.Native.Nat.{◌-◌}
 use native.Mathlib.Omega.{arith}
 use borrow.Author.Rules.{rules}
 use Rattle.keeping.proofs.keep.Goals as goal

@@ -1,9 +1,7 @@
 -- `keeping::next` meets its contract. Assumes nothing.
 use Rattle.keeping.proofs.Calling.{next_short, next_none, next_some}
 use Rattle.journal.proofs.Reading.{free_le}
-use Prim.Native.Nat.{◌-◌}
 use native.Mathlib.Omega.{arith}
-use borrow.Author.Rules.{rules}
 use Rattle.keeping.proofs.next.Goals as goal
 
 pub returns-then-area-ne-AREA : goal.returns-then-area-ne-AREA

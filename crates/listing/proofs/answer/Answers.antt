@@ -6,7 +6,6 @@ use native.Mathlib.Omega.{arith}
 use lib.ListN.{get_or}
 use Rattle.listing.specs.Listing.{answer_from}
 use Rattle.rules.specs.Calls.{answer}
-use borrow.Author.Rules.{rules}
 use Rattle.listing.proofs.answer.Goals as goal
 
 pub returns : goal.returns

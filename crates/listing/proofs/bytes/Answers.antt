@@ -1,11 +1,10 @@
 -- `listing::bytes` meets its contract. Assumes nothing.
 use mathlib.Core.Path.{◌≡◌, refl, sym, ap, ◌∙◌}
-use Prim.Native.Nat.{ℕ, ◌≤◌, ◌+◌, ◌-◌}
+use Prim.Native.Nat.{ℕ, ◌+◌}
 use native.Mathlib.Omega.{arith}
 use lib.Seq.{sets}
-use lib.ListN.{length, drop, length-set}
+use lib.ListN.{length-set}
 use Rattle.listing.proofs.Printing.{bytes_next, bytes_end}
-use borrow.Author.Rules.{rules}
 use Rattle.listing.proofs.bytes.Goals as goal
 
 pub loop-i-init : goal.loop-i-init

@@ -1,11 +1,8 @@
 -- `listing::bytes` meets its contract. Assumes nothing.
-use mathlib.Core.Path.{◌≡◌, refl, sym, ap, ◌∙◌}
-use Prim.Native.Nat.{ℕ, ◌≤◌, ◌+◌, ◌-◌}
-use native.Mathlib.Omega.{arith}
+use mathlib.Core.Path.{◌≡◌}
+use Prim.Native.Nat.{◌≤◌, ◌+◌, ◌-◌}
 use lib.Seq.{sets}
-use lib.ListN.{length, drop, length-set}
-use Rattle.listing.proofs.Printing.{bytes_next, bytes_end}
-use borrow.Author.Rules.{rules}
+use lib.ListN.{length, drop}
 use Rattle.listing.proofs.bytes.Given as goal
 
 abbrev pub invariant-loop-i : goal.invariant-loop-i

@@ -6,7 +6,6 @@ use native.Mathlib.Omega.{arith}
 use lib.ListN.{length-append, set}
 use Rattle.listing.specs.Listing.{fields_of}
 use Rattle.text.proofs.Putting.{sets_append}
-use borrow.Author.Rules.{rules}
 use Rattle.listing.proofs.ending.Goals as goal
 
 pub returns : goal.returns

@@ -4,7 +4,6 @@ use native.Mathlib.Omega.{arith}
 use lib.ListN.{length, set, length-set}
 use Rattle.listing.proofs.Printing.{field_length, field_put}
 use Rattle.text.proofs.Putting.{ten_digits}
-use borrow.Author.Rules.{rules}
 use Rattle.listing.proofs.field.Goals as goal
 
 pub put-requires : goal.put-requires

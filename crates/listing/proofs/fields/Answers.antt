@@ -1,12 +1,11 @@
 -- `listing::fields` meets its contract. Assumes nothing.
-use mathlib.Core.Path.{◌≡◌, refl, sym, ap, ◌∙◌}
-use Prim.Native.Nat.{◌≤◌, ◌+◌, ◌*◌, ◌-◌}
+use mathlib.Core.Path.{refl, sym, ap, ◌∙◌}
+use Prim.Native.Nat.{◌+◌}
 use native.Mathlib.Omega.{arith}
 use lib.Seq.{sets}
 use lib.ListN.{length, drop}
 use Rattle.listing.proofs.Printing.{fields_next, fields_long, fields_none}
 use Rattle.listing.specs.Listing.{fields_of}
-use borrow.Author.Rules.{rules}
 use Rattle.listing.proofs.fields.Goals as goal
 
 pub loop-i-init : goal.loop-i-init

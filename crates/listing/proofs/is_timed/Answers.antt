@@ -3,7 +3,6 @@ use mathlib.Core.List.{List}
 use mathlib.Core.Path.{ap, ◌∙◌}
 use Prim.Native.Nat.{ℕ}
 use Rattle.records.specs.Records.{same}
-use borrow.Author.Rules.{rules}
 use Rattle.listing.proofs.is_timed.Goals as goal
 
 pub returns : goal.returns

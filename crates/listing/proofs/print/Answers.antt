@@ -4,7 +4,6 @@ use native.Mathlib.Omega.{arith}
 use lib.ListN.{length-take, get_or}
 use Rattle.listing.proofs.Reading.{no_letter}
 use Rattle.calls.proofs.Letters.{many_few}
-use borrow.Author.Rules.{rules}
 use Rattle.listing.proofs.print.Goals as goal
 
 pub returns-then-n-eq0 : goal.returns-then-n-eq0

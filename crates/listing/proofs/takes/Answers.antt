@@ -1,7 +1,6 @@
 -- `listing::takes` meets its contract. Assumes nothing.
 use Rattle.listing.proofs.Taking.{taken_by}
 use Rattle.at.specs.Lines.{read_line}
-use borrow.Author.Rules.{rules}
 use Rattle.listing.proofs.takes.Goals as goal
 
 pub returns-in-Query : goal.returns-in-Query

@@ -6,7 +6,6 @@ use lib.ListN.{get_or}
 use Rattle.listing.proofs.Reading.{timed_some, timed_none}
 use Rattle.records.specs.Records.{numbers_in}
 use Rattle.calls.proofs.Letters.{many_few}
-use borrow.Author.Rules.{rules}
 use Rattle.listing.proofs.timed.Goals as goal
 
 pub numbers-requires : goal.numbers-requires

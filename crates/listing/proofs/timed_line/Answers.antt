@@ -5,7 +5,6 @@ use native.Mathlib.Omega.{arith}
 use lib.ListN.{length, set, length-set}
 use Rattle.listing.proofs.Printing.{line_put}
 use Rattle.listing.specs.Listing.{fields_of, end_of}
-use borrow.Author.Rules.{rules}
 use Rattle.listing.proofs.timed_line.Goals as goal
 
 pub fields-next-requires : goal.fields-next-requires

@@ -4,7 +4,6 @@ use Prim.Native.Nat.{◌≤◌, ◌+◌, ◌-◌}
 use native.Mathlib.Omega.{arith}
 use lib.ListN.{take, drop}
 use Rattle.listing.proofs.Reading.{too_long, taken_long, part_is, part_long, typed_some, typed_bad, typed_none}
-use borrow.Author.Rules.{rules}
 use Rattle.listing.proofs.typed.Goals as goal
 
 pub returns-then-n-gt96 : goal.returns-then-n-gt96

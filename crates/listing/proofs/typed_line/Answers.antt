@@ -7,7 +7,6 @@ use lib.Seq.{length-take-le}
 use lib.ListN.{length, take, set, length-set}
 use Rattle.listing.proofs.Printing.{line_put}
 use Rattle.listing.specs.Listing.{line_of, end_of}
-use borrow.Author.Rules.{rules}
 use Rattle.listing.proofs.typed_line.Goals as goal
 
 pub slice_bounds-bytes-end : goal.slice_bounds-bytes-end

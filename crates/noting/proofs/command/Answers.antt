@@ -3,9 +3,7 @@ use Rattle.noting.proofs.Lining.{line_deaf, line_short, line_refused}
 use Rattle.at.specs.Lines.{read_line}
 use Rattle.clock.proofs.Saying.{known_good, known_bad}
 use Rattle.rules.specs.Calls.{answer, typed}
-use Prim.Native.Nat.{◌-◌}
 use mathlib.Core.Path.{refl}
-use borrow.Author.Rules.{rules}
 use mathlib.Core.Path.{ap}
 use mathlib.Core.Bool.{not}
 use Rattle.noting.proofs.command.Goals as goal

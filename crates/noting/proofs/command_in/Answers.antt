@@ -1,9 +1,6 @@
 -- `noting::command_in` meets its contract. Assumes nothing.
 use Rattle.noting.proofs.Lining.{foreseen_line, fits_line, line_refused, line_full, line_done}
-use borrow.Author.Tests.{not-true, not-false}
-use Prim.Native.Nat.{◌-◌}
 use mathlib.Core.Path.{sym, ◌∙◌}
-use borrow.Author.Rules.{rules}
 use Rattle.noting.proofs.command_in.Goals as goal
 
 pub returns-then-refused : goal.returns-then-refused

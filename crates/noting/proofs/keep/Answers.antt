@@ -1,6 +1,4 @@
 -- `noting::keep` meets its contract. Assumes nothing.
-use Prim.Native.Nat.{◌-◌}
-use borrow.Author.Rules.{rules}
 use Rattle.noting.proofs.keep.Goals as goal
 
 pub returns : goal.returns

@@ -2,9 +2,7 @@
 use Rattle.noting.specs.Noting.{line_answer}
 use Rattle.at.proofs.ReadLaws.{told}
 use Rattle.at.specs.Lines.{read_line}
-use Prim.Native.Nat.{◌-◌}
 use mathlib.Core.Path.{sym, ap}
-use borrow.Author.Rules.{rules}
 use Rattle.noting.proofs.verdict.Goals as goal
 
 pub returns-in-Query : goal.returns-in-Query

@@ -1,11 +1,8 @@
 -- `records::copy` meets its contract. Assumes nothing.
-use borrow.Author.Rules.{rules}
-use Rattle.records.proofs.Writing.{copy_next, copy_end}
-use Prim.Native.Nat.{◌≤◌, ◌+◌, ◌-◌}
-use mathlib.Core.Path.{◌≡◌, refl}
+use Prim.Native.Nat.{◌≤◌, ◌-◌}
+use mathlib.Core.Path.{◌≡◌}
 use mathlib.Core.List.{◌++◌}
-use lib.ListN.{length, take, drop, length-set}
-use native.Mathlib.Omega.{arith}
+use lib.ListN.{length, take, drop}
 use Rattle.records.proofs.copy.Given as goal
 
 abbrev pub invariant-loop-i : goal.invariant-loop-i

@@ -1,11 +1,7 @@
 -- `records::same` meets its contract. Assumes nothing.
 use Rattle.records.proofs.Writing.{same_next, same_not, same_all}
-use Rattle.records.specs.Records.{same}
-use Prim.Native.Nat.{◌≤◌, ◌-◌}
-use mathlib.Core.Path.{◌≡◌, refl}
-use lib.ListN.{length, drop}
+use mathlib.Core.Path.{refl}
 use native.Mathlib.Omega.{arith}
-use borrow.Author.Rules.{rules}
 use Rattle.records.proofs.same.Goals as goal
 
 pub loop-i-init : goal.loop-i-init

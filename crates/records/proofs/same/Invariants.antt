@@ -1,11 +1,8 @@
 -- `records::same` meets its contract. Assumes nothing.
-use Rattle.records.proofs.Writing.{same_next, same_not, same_all}
 use Rattle.records.specs.Records.{same}
 use Prim.Native.Nat.{◌≤◌, ◌-◌}
-use mathlib.Core.Path.{◌≡◌, refl}
+use mathlib.Core.Path.{◌≡◌}
 use lib.ListN.{length, drop}
-use native.Mathlib.Omega.{arith}
-use borrow.Author.Rules.{rules}
 use Rattle.records.proofs.same.Given as goal
 
 abbrev pub invariant-loop-i : goal.invariant-loop-i

@@ -1,10 +1,8 @@
 -- `records::spell_line` meets its contract. Assumes nothing.
 use Rattle.records.proofs.Writing.{spelling_line}
-use Prim.Native.Nat.{◌-◌}
 use mathlib.Core.Path.{◌≡◌}
 use lib.ListN.{length, set, length-set}
 use native.Mathlib.Omega.{arith}
-use borrow.Author.Rules.{rules}
 use Rattle.records.proofs.spell_line.Goals as goal
 
 pub put_numbers-requires : goal.put_numbers-requires

@@ -2,9 +2,8 @@
 use Rattle.restarting.proofs.Stepping.{redo_refused, redo_same}
 use Rattle.records.specs.Records.{types, same}
 use mathlib.Core.List.{List}
-use Prim.Native.Nat.{ℕ, ◌-◌}
+use Prim.Native.Nat.{ℕ}
 use mathlib.Core.Path.{sym, ap, ◌∙◌}
-use borrow.Author.Rules.{rules}
 use Rattle.restarting.proofs.line.Goals as goal
 
 pub returns-then-refused : goal.returns-then-refused

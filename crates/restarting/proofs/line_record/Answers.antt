@@ -1,10 +1,8 @@
 -- `restarting::line_record` meets its contract. Assumes nothing.
 use Rattle.restarting.proofs.Stepping.{text_short, line_as}
 use Rattle.restarting.proofs.Stepping.{redo_none, line_none}
-use Prim.Native.Nat.{◌-◌}
 use lib.ListN.{drop}
 use native.Mathlib.Omega.{arith}
-use borrow.Author.Rules.{rules}
 use Rattle.restarting.proofs.line_record.Goals as goal
 
 pub returns-then-n-gt96 : goal.returns-then-n-gt96

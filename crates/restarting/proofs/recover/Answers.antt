@@ -1,11 +1,8 @@
 -- `restarting::recover` meets its contract. Assumes nothing.
-use borrow.Author.Rules.{rules}
-use borrow.Author.Tests.{not-true, not-false}
 use Rattle.journal.specs.declared.Survey.TheVariants.{Clean, Torn}
 use Rattle.journal.specs.Area.{survey}
 use Rattle.journal.proofs.Replaying.{says_most, says_clean, says_torn, torn_below}
 use Rattle.restarting.proofs.Recovering.{recovers_bad, recovers_clean, recovers_stop, recovers_torn}
-use Prim.Native.Nat.{◌-◌}
 use mathlib.Core.Path.{◌≡◌, sym, ◌∙◌}
 use Rattle.restarting.proofs.recover.Goals as goal
 

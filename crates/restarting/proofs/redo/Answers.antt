@@ -1,7 +1,5 @@
 -- `restarting::redo` meets its contract. Assumes nothing.
 use Rattle.restarting.proofs.Stepping.{begins_line, begins_timed}
-use Prim.Native.Nat.{◌-◌}
-use borrow.Author.Rules.{rules}
 use Rattle.restarting.proofs.redo.Goals as goal
 
 pub returns-then-x-eq65 : goal.returns-then-x-eq65

@@ -1,19 +1,13 @@
 -- `restarting::replay` meets its contract. Assumes nothing.
-use borrow.Author.Rules.{rules}
-use lib.Seq.{slice}
-use borrow.Author.Tests.{not-true, not-false}
-use Rattle.buffer.specs.Places.{SIZE}
-use Rattle.buffer.specs.Good.{good}
 use Rattle.buffer.proofs.Goodness.{good_shape}
-use Rattle.journal.specs.Area.{slots, replay}
 use Rattle.journal.proofs.Bytes.{slot_long}
 use Rattle.journal.proofs.Replaying.{replay_on, replay_off, replay_end}
 use Rattle.restarting.specs.Restarting.{step}
-use Prim.Native.Nat.{ℕ, ◌≤◌, ◌-◌}
+use Prim.Native.Nat.{ℕ}
 use mathlib.Core.Path.{◌≡◌, refl, sym, ap, ◌∙◌}
-use mathlib.Core.Bool.{true, false, false≢true}
+use mathlib.Core.Bool.{false≢true}
 use mathlib.Core.List.{List}
-use lib.ListN.{length, take}
+use lib.ListN.{length}
 use native.Mathlib.Omega.{arith}
 use Rattle.restarting.proofs.replay.Goals as goal
 

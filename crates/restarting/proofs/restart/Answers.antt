@@ -1,13 +1,11 @@
 -- `restarting::restart` meets its contract. Assumes nothing.
-use borrow.Author.Rules.{rules}
 use mathlib.Core.Path.{sym, ap, ◌∙◌, subst}
-use borrow.Author.Tests.{not-true, not-false}
 use Rattle.journal.specs.Area as Area
 use Rattle.buffer.specs.Good.{good}
 use Rattle.clock.proofs.Saying.{known_good}
 use Rattle.restarting.specs.Restarting.{step, Recovers}
 use Rattle.restarting.proofs.Recovering.{restart_area, restart_state, restart_image, restart_refused, restart_done}
-use Prim.Native.Nat.{ℕ, ◌-◌}
+use Prim.Native.Nat.{ℕ}
 use mathlib.Core.List.{List}
 use lib.ListN.{length}
 use native.Mathlib.Omega.{arith}

@@ -2,7 +2,7 @@
 use Rattle.restarting.proofs.Stepping.{timed_refused, timed_same}
 use Rattle.records.specs.Records.{numbers_in}
 use Rattle.calls.proofs.Letters.{many_few}
-use Prim.Native.Nat.{ℕ, ◌-◌}
+use Prim.Native.Nat.{ℕ}
 use mathlib.Core.Path.{sym, ap, ◌∙◌}
 use native.Mathlib.Omega.{arith}
 use borrow.Author.Rules.{rules}

@@ -2,10 +2,8 @@
 use Rattle.restarting.proofs.Stepping.{of_five}
 use Rattle.restarting.proofs.Stepping.{redo_none, timed_none}
 use Rattle.calls.proofs.Letters.{many_few}
-use Prim.Native.Nat.{◌-◌}
 use mathlib.Core.Path.{sym, ◌∙◌}
 use native.Mathlib.Omega.{arith}
-use borrow.Author.Rules.{rules}
 use Rattle.restarting.proofs.timed_record.Goals as goal
 
 pub returns-then-n-eq0 : goal.returns-then-n-eq0
