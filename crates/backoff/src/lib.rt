@@ -1,6 +1,7 @@
 // The back-off of a service: a small value that each outcome hands back moved on, its two places,
 // and how long it waits.
 #![tactic(auto)]
+
 ghost use Rattle.std.specs.Prelude.{◌≡◌, true, ◌+◌, ◌%◌, ◌<◌, ◌≤◌, length};
 ghost use Rattle.rules.specs.Tables.{one_more, interval};
 ghost use Rattle.rules.specs.Rules.{wait, failed};

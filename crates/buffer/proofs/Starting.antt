@@ -10,7 +10,7 @@ use Rattle.rules.specs.Rules.{short}
 use Rattle.rules.specs.Tables.{four, six, of_six}
 use Rattle.rules.proofs.Newest.{ascending_rises}
 use Rattle.rules.proofs.Demand3.{Starts}
-use Rattle.buffer.specs.Good.{bytes, valid}
+use Rattle.buffer.specs.Good.{valid}
 use Rattle.buffer.proofs.Goodness.{each_at_most}
 use Rattle.buffer.proofs.Sane.{valid_facts}
 use Rattle.buffer.proofs.Keep.{newest_all}

@@ -5,6 +5,7 @@
 // What the table says is in specs/: `lay`, `view`, `good`. No function here assumes more than it
 // requires.
 #![tactic(auto)]
+
 pub mod fields;
 pub mod lists;
 pub mod places;

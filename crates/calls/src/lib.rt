@@ -1,6 +1,7 @@
 // A timed call as data: document 01's letter and the numbers after it. Nothing here knows what a
 // call does.
 #![tactic(auto)]
+
 ghost use Rattle.std.specs.Prelude.{◌≡◌, length};
 ghost use Rattle.calls.specs.Letters.{how_many, event_of};
 

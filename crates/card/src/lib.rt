@@ -1,6 +1,7 @@
 // The card's files: whether one is as document 01 has it, which file rules where the card may lack it, and the counter file written. Nothing
 // here knows the buffer.
 #![tactic(auto)]
+
 ghost use Rattle.std.specs.Prelude.{◌≡◌, cond, ◌≤◌, length, replicate};
 ghost use Rattle.card.specs.Card.{blank, file, absent, good_or_absent, IsPart, written};
 

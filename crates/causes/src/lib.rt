@@ -1,6 +1,7 @@
 // What to do on a cause that the network gives, the CME or CMS number beside it, and what it means
 // for the mood of service 2. No buffer is known here. A column is 0 MM, 1 GMM, 2 SM, 3 RP, 4 CP.
 #![tactic(auto)]
+
 ghost use Rattle.std.specs.Prelude.{◌≡◌, true};
 ghost use Rattle.rules.specs.Tables.{mood_on};
 ghost use Rattle.rules.specs.Causes.{printed, action, both};

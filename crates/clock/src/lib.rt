@@ -1,6 +1,7 @@
 // The clock, which every timed call moves first, and the leaks of the counters. With it stands what
 // all timed calls share: the order of the checks 2, 3 and 4, and the check of the time.
 #![tactic(auto)]
+
 ghost use Rattle.std.specs.Prelude.{◌≡◌, true, ◌&&◌, ◌*◌, ◌/◌, ◌-◌, ◌<◌, ◌≤◌, length, get_or, leb};
 ghost use Rattle.rules.specs.Tables.{highest_time, among, refusals};
 ghost use Rattle.rules.specs.Rules.{check, moved};

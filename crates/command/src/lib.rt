@@ -1,5 +1,6 @@
 // The call for AT lines: what a line says is done, and its answer is written to the room that the caller lends. It does not move the clock.
 #![tactic(auto)]
+
 ghost use Rattle.std.specs.Prelude.{◌≡◌, true, ◌+◌, ◌≤◌, length};
 ghost use Rattle.rules.specs.Calls.{typed, query};
 ghost use Rattle.buffer.specs.Places.{SIZE};

@@ -1,6 +1,7 @@
 // How a request is decided, on a buffer that is known to be good, by reading alone: the checks, the
 // back-off, and the limits row by row.
 #![tactic(auto)]
+
 ghost use Rattle.std.specs.Prelude.{◌≡◌, true, cond, ◌&&◌, ◌≤◌, ◌<◌, length, ltb};
 ghost use Rattle.rules.specs.Calls.{timed};
 ghost use Rattle.rules.specs.declared.Event.TheVariants.{Ask as ask};

@@ -2,6 +2,7 @@
 // nothing but the clock. `happen` is the call, on any buffer; `happen_in` is the same on a buffer
 // that is known to be good.
 #![tactic(auto)]
+
 ghost use Rattle.std.specs.Prelude.{◌≡◌, true, length};
 ghost use Rattle.rules.specs.Calls.{timed};
 ghost use Rattle.buffer.specs.Places.{SIZE};

@@ -8,6 +8,7 @@
 // of `parameters` and `rates`, which are asked of the files alone, which part it is, `IsPart`; of
 // `error`, which is asked of nothing but its numbers, `error_for`. Each allows one result only.
 #![tactic(auto)]
+
 ghost use Rattle.std.specs.Prelude.{◌≡◌};
 ghost use Rattle.rules.specs.Calls.{timed};
 ghost use Rattle.rules.specs.declared.Event.TheVariants.{Ask as ask, Outcome as outcome, Dropped as dropped, Tick as tick};

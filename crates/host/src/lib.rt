@@ -2,7 +2,8 @@
 // started with, and a line on standard error that says why something failed.
 #![tactic(auto)]
 
-ghost use Rattle.std.specs.Prelude.{◌≡◌, ◌≤◌, ◌<◌, length, take, IfOk};
+ghost use Rattle.std.specs.Prelude.{◌≡◌, ◌≤◌, ◌<◌, ◌↔◌, length, take, IfOk, IsOk};
+ghost use Rattle.std.specs.Str.{IsUtf8};
 ghost use Rattle.std.specs.Io.{ReadsAtMost};
 ghost use Rattle.std.specs.Io.KnownBytes.{Consumes, IsAtEnd};
 
@@ -37,16 +38,24 @@ pub fn has_arg<E: Env>(env: &E, i: usize) -> bool {
     }
 }
 
-// The error of a word that is missing, or too long: EINVAL, or ENAMETOOLONG.
+// The system's numbers of two errors: of what makes no sense, and of a name that is too long.
+const EINVAL: i32 = 22;
+
+const ENAMETOOLONG: i32 = 36;
+
+// The error of a word that is missing, or longer than the room for it.
 pub fn no_arg(why: FillError) -> io::Error {
     match why {
-        FillError::NotPresent => io::Error::from_raw_os_error(22),
-        FillError::TooLong => io::Error::from_raw_os_error(36),
+        FillError::NotPresent => io::Error::from_raw_os_error(EINVAL),
+        FillError::TooLong => io::Error::from_raw_os_error(ENAMETOOLONG),
     }
 }
 
 // The name of a file as std takes it, which is text in UTF-8.
-pub fn name_of(bytes: &[u8]) -> io::Result<&str> {
+pub fn name_of(bytes: &[u8]) -> io::Result<&str>
+    ensures same { IfOk result (λ text. text.now ≡ bytes.now) }
+    ensures utf8 { IsOk result ↔ IsUtf8 bytes.now }
+{
     match std::str::from_utf8(bytes) {
         Ok(text) => Ok(text),
         Err(_) => Err(io::Error::new(io::ErrorKind::InvalidFilename, "the name is not UTF-8")),

@@ -1,5 +1,6 @@
 // A buffer as bytes, to be kept in a file: each number as four bytes, the lowest first.
 #![tactic(auto)]
+
 ghost use Rattle.std.specs.Prelude.{◌≡◌, ◌+◌, ◌*◌, ◌≤◌, length, get_or};
 ghost use Rattle.std.proofs.lemmas.List.Edits.{sets};
 ghost use Rattle.image.specs.Image.{four, number, image_of, numbers_of};

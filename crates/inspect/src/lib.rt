@@ -1,5 +1,6 @@
 // Judges a whole buffer by document 01's table: its length, its version, and every line.
 #![tactic(auto)]
+
 mod lines;
 pub mod scan;
 

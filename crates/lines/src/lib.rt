@@ -1,6 +1,7 @@
 // One trace line in, its answer out. `answer` takes any buffer; `answer_in` is for one that is known to be good, and does not check it. Both
 // promise the same.
 #![tactic(auto)]
+
 ghost use Rattle.std.specs.Prelude.{◌≡◌, true, [], ◌∷◌, ◌++◌, ◌+◌, ◌-◌, ◌≤◌, ◌<◌, length, get_or, take, drop, replicate};
 ghost use Rattle.rules.specs.Calls.{timed};
 ghost use Rattle.buffer.specs.Places.{SIZE};

@@ -29,7 +29,8 @@ fn is_torn(area: &[u8], i: usize) -> bool
     if area[at] == 255 {
         return false;
     }
-    if area[at + 127] == 0 {
+    let unclosed = area[at + 127] == 0;
+    if unclosed {
         return false;
     }
     journal::all_erased(area, at + 128)

@@ -1,5 +1,6 @@
 // The mixing of request §3: a number of 64 bits in, another out. Different numbers never mix to the same one: proofs/Apart.antt.
 #![tactic(auto)]
+
 ghost use Rattle.std.specs.Prelude.{◌≡◌, ◌<◌, ◌^◌, min};
 ghost use Rattle.mixing.specs.Mixing.{mixed, drawn};
 

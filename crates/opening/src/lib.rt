@@ -1,5 +1,6 @@
 // Opening: a new buffer of what is given, or a refusal and the buffer as it was. It needs no earlier time and no good buffer.
 #![tactic(auto)]
+
 ghost use Rattle.std.specs.Prelude.{◌≡◌, [], ◌∷◌, ◌+◌, ◌/◌, ◌%◌, ◌^◌, ◌≤◌, length, get_or, replicate};
 ghost use Rattle.rules.specs.Tables.{scheduled};
 ghost use Rattle.buffer.specs.Places.{SIZE, CURRENT, LETTERS, INTERVALS, PARAMETERS, HOUSE, RATES};

@@ -1,6 +1,7 @@
 // What became of a request, on a buffer that is known to be good: granted, rejected with a cause,
 // or silent, when no answer came; and service 2 dropped.
 #![tactic(auto)]
+
 ghost use Rattle.std.specs.Prelude.{◌≡◌, true, false, cond, ◌<◌, ◌≤◌, length, eqb};
 ghost use Rattle.rules.specs.Calls.{timed};
 ghost use Rattle.rules.specs.declared.Event.TheVariants.{Outcome as outcome, Dropped as dropped};

@@ -1,6 +1,7 @@
 // Why the gate says no. The rules that stand against a request go into one number with a bit for each, in document 01's order: bit 0 is 10,
 // the back-off, bit 1 is 11, and then 13 to 18. Nothing is changed.
 #![tactic(auto)]
+
 pub mod said;
 
 ghost use Rattle.std.specs.Prelude.{◌≡◌, true, cond, [], ◌∷◌, ◌+◌, ◌*◌, ◌≤◌, ◌<◌, length, get_or};

@@ -1,6 +1,7 @@
 // Requests, on a buffer that is known to be good: decided by reading alone, then carried out by
 // writing. `send` and `tally` are what the reset that the gate orders has in common with request 5.
 #![tactic(auto)]
+
 ghost use Rattle.std.specs.Prelude.{◌≡◌, true, ◌<◌, length};
 ghost use Rattle.rules.specs.Calls.{timed};
 ghost use Rattle.rules.specs.declared.Event.TheVariants.{Ask as ask};

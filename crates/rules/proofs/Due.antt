@@ -10,7 +10,7 @@ use native.Mathlib.Nat.{mod-lt}
 use native.Mathlib.Omega.{arith}
 use Rattle.mixing.specs.Mixing.{drawn}
 use Rattle.rules.specs.declared.Answer.{Answer}
-use Rattle.rules.specs.Calls.{outcome, rejected, tick, Call, timed, Entry, entry, answer}
+use Rattle.rules.specs.Calls.{outcome, rejected, tick, Call, timed, Entry, entry}
 use Rattle.rules.specs.Tables.{permanent, delay_for}
 use Rattle.rules.specs.State.{State}
 use Rattle.rules.specs.Record.{due_now}

@@ -1,5 +1,6 @@
 // The counter file: the card's six counters, written to exactly 32 bytes. It does not move the clock, and leaves the state as it is.
 #![tactic(auto)]
+
 ghost use Rattle.std.specs.Prelude.{◌≡◌, true, ◌<◌, length, get_or};
 ghost use Rattle.buffer.specs.Places.{SIZE};
 ghost use Rattle.buffer.specs.Layout.{facts_of};

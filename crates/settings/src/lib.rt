@@ -1,5 +1,6 @@
 // What AT lines settle, on a buffer of the right length: NFM, Start Timer and the base intervals.
 #![tactic(auto)]
+
 ghost use Rattle.std.specs.Prelude.{◌≡◌, ◌<◌, ◌≤◌, length, take};
 ghost use Rattle.buffer.specs.Places.{SIZE};
 ghost use Rattle.backoff.specs.Backoffs.{stored, clear};

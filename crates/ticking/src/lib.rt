@@ -1,6 +1,7 @@
 // The clock call, on a buffer that is known to be good: the clock moves and the counters leak, and
 // the timed reset that is due is ordered.
 #![tactic(auto)]
+
 ghost use Rattle.std.specs.Prelude.{◌≡◌, true, ◌≤◌, length};
 ghost use Rattle.rules.specs.Calls.{timed};
 ghost use Rattle.rules.specs.declared.Event.TheVariants.{Tick as tick};

@@ -1,6 +1,7 @@
 // The timed reset of CLP.03, as far as a rejection sets it: which rejections T1 waits from, and
 // when the reset is due then.
 #![tactic(auto)]
+
 ghost use Rattle.std.specs.Prelude.{◌≡◌, true, ◌&&◌, ◌+◌, ◌*◌, ◌%◌, ◌≤◌, length, ltb, eqb};
 ghost use Rattle.rules.specs.declared.Outcome.TheVariants.{Rejected as rejected};
 ghost use Rattle.rules.specs.Tables.{highest_time, permanent};

@@ -1,6 +1,7 @@
 // The turning call: a buffer of version 1 is read, and one of version 2 that holds the same is
 // written. It needs no time.
 #![tactic(auto)]
+
 ghost use Rattle.std.specs.Prelude.{◌≡◌, length};
 ghost use Rattle.buffer.specs.Places.{SIZE, BASE};
 ghost use Rattle.turning.specs.Turning.{turned, TurnSays};

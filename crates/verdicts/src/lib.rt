@@ -1,5 +1,6 @@
 // The answer to any timed call, on a buffer that is known to be good, by reading alone.
 #![tactic(auto)]
+
 ghost use Rattle.std.specs.Prelude.{◌≡◌, true, length};
 ghost use Rattle.rules.specs.Calls.{timed};
 ghost use Rattle.rules.specs.declared.Event.TheVariants.{Outcome as outcome, Dropped as dropped, Tick as tick};

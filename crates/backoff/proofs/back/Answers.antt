@@ -5,7 +5,6 @@ use borrow.Author.Tests.{eq-eqb, ne_eqb}
 use Prim.Native.Nat.{◌+◌}
 use Rattle.backoff.specs.Backoffs.{backed, stored, later}
 use Rattle.backoff.specs.declared.Backoff.{Backoff}
-use borrow.Author.Rules.{rules}
 use Rattle.backoff.proofs.back.Goals as goal
 
 pub returns-then-n-ne20 : goal.returns-then-n-ne20

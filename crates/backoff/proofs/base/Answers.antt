@@ -2,7 +2,6 @@
 use mathlib.Core.Path.{◌∙◌}
 use native.Mathlib.Omega.{arith}
 use Rattle.backoff.proofs.Backoffs.{count_range, interval_next, interval_last}
-use borrow.Author.Rules.{rules}
 use Rattle.backoff.proofs.base.Goals as goal
 
 pub interval-requires : goal.interval-requires

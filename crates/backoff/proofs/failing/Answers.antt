@@ -4,7 +4,6 @@ use borrow.Author.Tests.{eq-eqb, ne_eqb}
 use Rattle.buffer.specs.Layout.{facts_of}
 use Rattle.rules.specs.Calls.{answer}
 use Rattle.rules.specs.Rules.{failed}
-use borrow.Author.Rules.{rules}
 use Rattle.backoff.proofs.failing.Goals as goal
 
 pub returns-then-n-ne20 : goal.returns-then-n-ne20

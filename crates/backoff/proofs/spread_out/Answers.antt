@@ -1,7 +1,6 @@
 -- `backoff::spread_out` meets its contract. Assumes nothing.
 use native.Mathlib.Nat.{mod-lt}
 use native.Mathlib.Omega.{arith}
-use borrow.Author.Rules.{rules}
 use Rattle.backoff.proofs.spread_out.Goals as goal
 
 pub overflow_cast-result-2 : goal.overflow_cast-result-2

@@ -1,5 +1,4 @@
 -- `backoff::store` meets its contract. Assumes nothing.
-use borrow.Author.Rules.{rules}
 use Rattle.backoff.proofs.store.Goals as goal
 
 pub returns : goal.returns

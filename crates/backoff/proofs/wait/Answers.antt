@@ -1,6 +1,5 @@
 -- `backoff::wait` meets its contract. Assumes nothing.
 use native.Mathlib.Omega.{arith}
-use borrow.Author.Rules.{rules}
 use Rattle.buffer.proofs.Sane.{imsi_low}
 use Rattle.backoff.proofs.Backoffs.{base_range, failures_low, waits}
 use Rattle.backoff.proofs.wait.Goals as goal

@@ -1,7 +1,6 @@
 -- `calls::how_many` meets its contract. Assumes nothing.
 use Rattle.calls.specs.Letters.{letter_q, letter_g, letter_s, letter_j, letter_d, letter_t, how_many}
 use Rattle.calls.proofs.Letters.{many_of, many_none}
-use Prim.Native.Nat.{◌-◌}
 use mathlib.Core.Path.{refl, sym}
 use Rattle.calls.proofs.how_many.Goals as goal
 

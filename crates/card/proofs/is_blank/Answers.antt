@@ -1,10 +1,6 @@
 -- `card::is_blank` meets its contract: the flag and what is left decide. Assumes nothing.
-use mathlib.Core.Path.{◌≡◌, refl}
-use mathlib.Core.Bool.{◌&&◌}
-use Prim.Native.Nat.{◌≤◌, ◌-◌}
+use mathlib.Core.Path.{refl}
 use native.Mathlib.Omega.{arith}
-use lib.ListN.{length, drop}
-use Rattle.card.specs.Card.{blank}
 use Rattle.card.proofs.Blank.{blank_next, blank_end}
 use Rattle.card.proofs.is_blank.Goals as goal
 

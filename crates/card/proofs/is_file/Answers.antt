@@ -3,7 +3,6 @@ use mathlib.Core.Path.{ap, ◌∙◌}
 use borrow.Author.Tests.{eq-eqb, ne_eqb}
 use Rattle.card.specs.Card.{blank, file}
 use Rattle.card.proofs.Blank.{rest}
-use borrow.Author.Rules.{rules}
 use Rattle.card.proofs.is_file.Goals as goal
 
 pub returns-then-p-long : goal.returns-then-p-long

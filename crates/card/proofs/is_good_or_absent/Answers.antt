@@ -1,6 +1,5 @@
 -- `card::is_good_or_absent` meets its contract. Assumes nothing.
 use borrow.Author.Tests.{eq-eqb, ne_eqb}
-use borrow.Author.Rules.{rules}
 use Rattle.card.specs.Card.{absent, good_or_absent}
 use Rattle.card.proofs.is_good_or_absent.Goals as goal
 

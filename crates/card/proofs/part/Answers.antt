@@ -1,7 +1,6 @@
 -- `card::part` meets its contract. Assumes nothing.
 use mathlib.Core.Path.{refl, sym}
 use lib.Seq.{length-take-le}
-use borrow.Author.Rules.{rules}
 use Rattle.card.proofs.Chosen.{long_enough, is_part, no_part}
 use mathlib.Core.Path.{ap}
 use mathlib.Core.Bool.{not}

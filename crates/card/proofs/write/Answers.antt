@@ -2,7 +2,6 @@
 use lib.ListN.{length-set}
 use native.Mathlib.Omega.{arith}
 use Rattle.card.specs.Card.{written}
-use borrow.Author.Rules.{rules}
 use Rattle.card.proofs.write.Goals as goal
 
 pub bounds-out-1 : goal.bounds-out-1

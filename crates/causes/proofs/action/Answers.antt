@@ -3,7 +3,6 @@ use native.Mathlib.Omega.{arith}
 use borrow.Author.Tests.{eq-eqb, ne_eqb, lt-ltb, le-ltb}
 use Rattle.rules.specs.Causes.{printed}
 use Rattle.causes.proofs.Causes.{entry_tells, entry_low}
-use borrow.Author.Rules.{rules}
 use Rattle.causes.proofs.action.Goals as goal
 
 pub returns-then-e-eq46 : goal.returns-then-e-eq46

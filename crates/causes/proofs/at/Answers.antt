@@ -4,7 +4,6 @@ use lib.ListN.{get_or-eq_default}
 use mathlib.Core.Path.{sym}
 use Rattle.causes.specs.Tables.{plain, entry_at}
 use Rattle.causes.proofs.Table.{inside_alike}
-use borrow.Author.Rules.{rules}
 use Rattle.causes.proofs.at.Goals as goal
 
 pub returns-then-i-table : goal.returns-then-i-table

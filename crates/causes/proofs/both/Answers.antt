@@ -4,7 +4,6 @@ use Prim.Native.Nat.{ℕ}
 use lib.Dec.{eqb}
 use Rattle.rules.specs.Causes.{printed, both}
 use Rattle.causes.proofs.Causes.{tells_both}
-use borrow.Author.Rules.{rules}
 use Rattle.causes.proofs.both.Goals as goal
 
 pub returns : goal.returns

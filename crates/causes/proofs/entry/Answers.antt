@@ -1,7 +1,6 @@
 -- `causes::entry` meets its contract. Assumes nothing.
 use native.Mathlib.Omega.{arith}
 use Rattle.causes.proofs.Table.{no_rows}
-use borrow.Author.Rules.{rules}
 use Rattle.causes.proofs.entry.Goals as goal
 
 pub returns-then-column-eq0 : goal.returns-then-column-eq0

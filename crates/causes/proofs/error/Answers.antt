@@ -2,7 +2,6 @@
 use mathlib.Core.Path.{ap}
 use Rattle.rules.specs.Calls.{answer}
 use Rattle.causes.specs.Tables.{error_for}
-use borrow.Author.Rules.{rules}
 use Rattle.causes.proofs.error.Goals as goal
 
 pub returns-then-column-cause : goal.returns-then-column-cause

@@ -1,7 +1,6 @@
 -- `causes::gmm` meets its contract. Assumes nothing.
 use mathlib.Core.Path.{refl}
 use Rattle.causes.proofs.Table.{acts}
-use borrow.Author.Rules.{rules}
 use Rattle.causes.proofs.gmm.Goals as goal
 
 pub returns : goal.returns

@@ -1,7 +1,6 @@
 -- `causes::letter` meets its contract. Assumes nothing.
 use native.Mathlib.Omega.{arith}
 use Rattle.causes.proofs.Table.{no_number}
-use borrow.Author.Rules.{rules}
 use Rattle.causes.proofs.letter.Goals as goal
 
 pub returns-then-column-eq0 : goal.returns-then-column-eq0

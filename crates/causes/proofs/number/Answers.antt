@@ -2,7 +2,6 @@
 use mathlib.Core.Path.{sym}
 use native.Mathlib.Omega.{arith}
 use Rattle.causes.proofs.Causes.{means_none, means_one}
-use borrow.Author.Rules.{rules}
 use Rattle.causes.proofs.number.Goals as goal
 
 pub returns-then-e-eq46 : goal.returns-then-e-eq46

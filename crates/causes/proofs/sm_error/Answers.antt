@@ -2,7 +2,6 @@
 use mathlib.Core.Path.{refl}
 use Rattle.causes.specs.Tables.{means}
 use Rattle.causes.proofs.Table.{errs}
-use borrow.Author.Rules.{rules}
 use Rattle.causes.proofs.sm_error.Goals as goal
 
 pub returns : goal.returns

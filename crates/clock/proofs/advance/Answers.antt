@@ -5,7 +5,6 @@ use mathlib.Core.List.{List}
 use lib.ListN.{set}
 use Rattle.clock.specs.Clock.{leaked}
 use Rattle.clock.proofs.Leaking.{clock_laid}
-use borrow.Author.Rules.{rules}
 use Rattle.clock.proofs.advance.Goals as goal
 
 pub returns : goal.returns

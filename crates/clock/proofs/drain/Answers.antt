@@ -1,5 +1,4 @@
 -- `clock::drain` meets its contract. Assumes nothing.
-use borrow.Author.Rules.{rules}
 use Rattle.clock.proofs.Leaking.{one_drained}
 use Rattle.clock.proofs.drain.Goals as goal
 

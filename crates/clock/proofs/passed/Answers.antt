@@ -1,6 +1,5 @@
 -- `clock::passed` meets its contract. Assumes nothing.
 use Rattle.clock.proofs.Leaking.{rate_low}
-use borrow.Author.Rules.{rules}
 use Rattle.clock.proofs.passed.Goals as goal
 
 pub gone-requires : goal.gone-requires

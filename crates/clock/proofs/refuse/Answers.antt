@@ -1,5 +1,4 @@
 -- `clock::refuse` meets its contract. Assumes nothing.
-use borrow.Author.Tests.{not-true, not-false}
 use Rattle.clock.proofs.refuse.Goals as goal
 
 pub returns-then-not-range : goal.returns-then-not-range

@@ -4,7 +4,6 @@ use mathlib.Core.Bool.{◌&&◌}
 use Prim.Native.Nat.{ℕ}
 use lib.Dec.{leb}
 use Rattle.rules.specs.Tables.{highest_time}
-use borrow.Author.Rules.{rules}
 use Rattle.clock.proofs.timely.Goals as goal
 
 pub returns : goal.returns

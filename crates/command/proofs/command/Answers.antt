@@ -4,7 +4,6 @@ use native.Mathlib.Omega.{arith}
 use Rattle.buffer.proofs.Tests.{no_of, yes_of}
 use Rattle.buffer.proofs.Goodness.{good_shape}
 use Rattle.command.proofs.Lined.{says_room, says_bad, says_heard}
-use borrow.Author.Rules.{rules}
 use mathlib.Core.Path.{ap}
 use mathlib.Core.Bool.{not}
 use Rattle.command.proofs.command.Goals as goal

@@ -2,7 +2,6 @@
 use native.Mathlib.Omega.{arith}
 use lib.ListN.{length-set}
 use Rattle.command.proofs.Lined.{okay_at}
-use borrow.Author.Rules.{rules}
 use Rattle.command.proofs.okay.Goals as goal
 
 pub bounds-out-i-2 : goal.bounds-out-i-2

@@ -3,7 +3,6 @@ use native.Mathlib.Omega.{arith}
 use lib.ListN.{length-set}
 use Rattle.opening.proofs.Copying.{stored as stores}
 use Rattle.command.specs.Command.{shown}
-use borrow.Author.Rules.{rules}
 use Rattle.command.proofs.told.Goals as goal
 
 pub bounds-out-1 : goal.bounds-out-1

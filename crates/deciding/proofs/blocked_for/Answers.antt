@@ -1,7 +1,6 @@
 -- `deciding::blocked_for` meets its contract. Assumes nothing.
 use native.Mathlib.Omega.{arith}
 use borrow.Author.Tests.{not-true, not-false, lt-ltb}
-use borrow.Author.Rules.{rules}
 use Rattle.deciding.proofs.blocked_for.Goals as goal
 
 pub returns-then-not-row : goal.returns-then-not-row

@@ -4,7 +4,6 @@ use Rattle.rules.specs.declared.Event.TheVariants.{Ask as ask}
 use Rattle.rules.proofs.Checks.{on_time}
 use Rattle.buffer.specs.Layout.{facts_of, view}
 use Rattle.deciding.proofs.Deciding.{ask_refused, ask_waits, ask_goes}
-use borrow.Author.Rules.{rules}
 use Rattle.deciding.proofs.decide.Goals as goal
 
 pub returns-then-n-ne0 : goal.returns-then-n-ne0

@@ -1,14 +1,10 @@
 -- `deciding::first_block` meets its contract: row after row, the first that blocks from there on is
 -- the first of all. Assumes nothing.
-use mathlib.Core.Path.{◌≡◌, refl, sym, ◌∙◌}
+use mathlib.Core.Path.{◌≡◌}
 use Prim.Native.Nat.{◌-◌, ◌≤◌}
 use lib.ListN.{drop}
-use native.Mathlib.Omega.{arith}
-use Rattle.rules.specs.Calls.{answer}
 use Rattle.rules.specs.Rules.{limits, first_block}
 use Rattle.buffer.specs.Layout.{facts_of, view}
-use Rattle.deciding.proofs.Deciding.{row_stands, row_rises, row_on, row_off, first_at}
-use borrow.Author.Rules.{rules}
 use Rattle.deciding.proofs.first_block.Given as goal
 
 abbrev pub invariant-loop-i : goal.invariant-loop-i

@@ -5,7 +5,6 @@ use borrow.Author.Tests.{le-leb, lt-leb, eq-eqb, ne_eqb}
 use Rattle.rules.specs.Rules.{stands}
 use Rattle.buffer.specs.Layout.{facts_of}
 use Rattle.buffer.proofs.Segments.{part_at}
-use borrow.Author.Rules.{rules}
 use Rattle.deciding.proofs.fits.Goals as goal
 
 pub returns-then-q-le3 : goal.returns-then-q-le3

@@ -5,7 +5,6 @@ use Prim.Native.Nat.{ℕ, ◌-◌}
 use borrow.Author.Tests.{le-leb, lt-leb}
 use Rattle.buffer.specs.Layout.{facts_of}
 use Rattle.buffer.proofs.Segments.{part_at}
-use borrow.Author.Rules.{rules}
 use Rattle.deciding.proofs.left.Goals as goal
 
 pub returns-then-q-gt3 : goal.returns-then-q-gt3

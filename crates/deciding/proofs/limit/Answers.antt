@@ -3,7 +3,6 @@ use mathlib.Core.Path.{◌≡◌, refl}
 use native.Mathlib.Omega.{arith}
 use Rattle.rules.specs.Rules.{limits}
 use Rattle.buffer.specs.Layout.{facts_of}
-use borrow.Author.Rules.{rules}
 use Rattle.deciding.proofs.limit.Goals as goal
 
 pub returns-in-0 : goal.returns-in-0

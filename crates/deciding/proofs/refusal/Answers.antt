@@ -3,7 +3,6 @@ use mathlib.Core.Path.{◌∙◌}
 use lib.Dec.{leb}
 use Rattle.rules.specs.Rules.{check, in_range, refusal}
 use Rattle.buffer.specs.Layout.{facts_of}
-use borrow.Author.Rules.{rules}
 use Rattle.deciding.proofs.refusal.Goals as goal
 
 pub returns : goal.returns

@@ -1,7 +1,6 @@
 -- `events::happen` meets its contract. Assumes nothing.
 use Rattle.rules.specs.Calls.{timed}
 use Rattle.clock.proofs.Saying.{known_good, known_bad}
-use borrow.Author.Rules.{rules}
 use mathlib.Core.Path.{ap}
 use mathlib.Core.Bool.{not}
 use Rattle.events.proofs.happen.Goals as goal

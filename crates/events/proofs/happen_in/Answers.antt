@@ -1,5 +1,4 @@
 -- `events::happen_in` meets its contract, event by event. Assumes nothing.
-use borrow.Author.Rules.{rules}
 use Rattle.events.proofs.happen_in.Goals as goal
 
 pub returns-in-Ask : goal.returns-in-Ask

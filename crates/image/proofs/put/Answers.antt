@@ -2,7 +2,6 @@
 use lib.ListN.{length-set}
 use Rattle.image.proofs.Imaging.{stores}
 use native.Mathlib.Omega.{arith}
-use borrow.Author.Rules.{rules}
 use Rattle.image.proofs.put.Goals as goal
 
 pub bounds-out-at-2 : goal.bounds-out-at-2

@@ -1,12 +1,8 @@
 -- `image::read` meets its contract: what was read, and the numbers of the bytes that are left, are all the numbers. Assumes nothing.
-use Prim.Native.Nat.{◌≤◌, ◌*◌, ◌-◌}
-use mathlib.Core.Path.{◌≡◌, refl}
-use lib.ListN.{length, take, drop, length-set}
-use mathlib.Core.List.{◌++◌}
-use Rattle.image.specs.Image.{numbers_of}
+use mathlib.Core.Path.{refl}
+use lib.ListN.{length-set}
 use Rattle.image.proofs.Imaging.{read_next, read_end}
 use native.Mathlib.Omega.{arith}
-use borrow.Author.Rules.{rules}
 use Rattle.image.proofs.read.Goals as goal
 
 pub loop-i-init : goal.loop-i-init

@@ -1,12 +1,9 @@
 -- `image::read` meets its contract: what was read, and the numbers of the bytes that are left, are all the numbers. Assumes nothing.
 use Prim.Native.Nat.{◌≤◌, ◌*◌, ◌-◌}
-use mathlib.Core.Path.{◌≡◌, refl}
-use lib.ListN.{length, take, drop, length-set}
+use mathlib.Core.Path.{◌≡◌}
+use lib.ListN.{length, take, drop}
 use mathlib.Core.List.{◌++◌}
 use Rattle.image.specs.Image.{numbers_of}
-use Rattle.image.proofs.Imaging.{read_next, read_end}
-use native.Mathlib.Omega.{arith}
-use borrow.Author.Rules.{rules}
 use Rattle.image.proofs.read.Given as goal
 
 abbrev pub invariant-loop-i : goal.invariant-loop-i

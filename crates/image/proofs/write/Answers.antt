@@ -1,12 +1,7 @@
 -- `image::write` meets its contract: what was written, and the image of the numbers that are left, are the whole image. Assumes nothing.
-use Prim.Native.Nat.{◌≤◌, ◌*◌, ◌-◌}
-use mathlib.Core.Path.{◌≡◌, refl}
-use lib.ListN.{length, take, drop}
-use mathlib.Core.List.{◌++◌}
-use Rattle.image.specs.Image.{image_of}
+use mathlib.Core.Path.{refl}
 use Rattle.image.proofs.Imaging.{write_next, write_end}
 use native.Mathlib.Omega.{arith}
-use borrow.Author.Rules.{rules}
 use Rattle.image.proofs.write.Goals as goal
 
 pub loop-i-init : goal.loop-i-init

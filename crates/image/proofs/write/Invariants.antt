@@ -1,12 +1,9 @@
 -- `image::write` meets its contract: what was written, and the image of the numbers that are left, are the whole image. Assumes nothing.
 use Prim.Native.Nat.{◌≤◌, ◌*◌, ◌-◌}
-use mathlib.Core.Path.{◌≡◌, refl}
+use mathlib.Core.Path.{◌≡◌}
 use lib.ListN.{length, take, drop}
 use mathlib.Core.List.{◌++◌}
 use Rattle.image.specs.Image.{image_of}
-use Rattle.image.proofs.Imaging.{write_next, write_end}
-use native.Mathlib.Omega.{arith}
-use borrow.Author.Rules.{rules}
 use Rattle.image.proofs.write.Given as goal
 
 abbrev pub invariant-loop-i : goal.invariant-loop-i

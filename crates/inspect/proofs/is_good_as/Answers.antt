@@ -1,6 +1,5 @@
 -- `inspect::is_good_as` meets its contract. Assumes nothing.
 use mathlib.Core.Path.{◌∙◌}
-use native.Mathlib.Omega.{arith}
 use Rattle.inspect.proofs.Judged.{wrong_length, wrong_version, right_head}
 use Rattle.inspect.proofs.is_good_as.Goals as goal
 

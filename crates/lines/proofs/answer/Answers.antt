@@ -1,7 +1,6 @@
 -- `lines::answer` meets its contract. Assumes nothing.
 use Rattle.lines.proofs.Doing.{line_room}
 use native.Mathlib.Omega.{arith}
-use borrow.Author.Rules.{rules}
 use Rattle.lines.proofs.answer.Goals as goal
 
 pub returns-then-out-lt22 : goal.returns-then-out-lt22

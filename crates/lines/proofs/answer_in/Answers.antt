@@ -1,7 +1,5 @@
 -- `lines::answer_in` meets its contract. Assumes nothing.
-use Prim.Native.Nat.{◌-◌}
 use mathlib.Core.Path.{sym}
-use borrow.Author.Rules.{rules}
 use Rattle.lines.proofs.answer_in.Goals as goal
 
 pub respond-requires : goal.respond-requires

@@ -1,10 +1,8 @@
 -- `lines::closed` meets its contract: the bytes are copied, and CR after them. Assumes nothing.
 use Rattle.lines.proofs.Filing.{closed_next, closed_end}
-use Prim.Native.Nat.{◌≤◌, ◌+◌, ◌-◌}
-use mathlib.Core.Path.{◌≡◌, refl}
-use lib.ListN.{length, take, drop, length-set}
+use mathlib.Core.Path.{refl}
+use lib.ListN.{length-set}
 use native.Mathlib.Omega.{arith}
-use borrow.Author.Rules.{rules}
 use Rattle.lines.proofs.closed.Goals as goal
 
 pub loop-i-init : goal.loop-i-init

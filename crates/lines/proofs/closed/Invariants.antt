@@ -1,10 +1,7 @@
 -- `lines::closed` meets its contract: the bytes are copied, and CR after them. Assumes nothing.
-use Rattle.lines.proofs.Filing.{closed_next, closed_end}
 use Prim.Native.Nat.{◌≤◌, ◌+◌, ◌-◌}
-use mathlib.Core.Path.{◌≡◌, refl}
-use lib.ListN.{length, take, drop, length-set}
-use native.Mathlib.Omega.{arith}
-use borrow.Author.Rules.{rules}
+use mathlib.Core.Path.{◌≡◌}
+use lib.ListN.{length, take, drop}
 use Rattle.lines.proofs.closed.Given as goal
 
 abbrev pub invariant-loop-i : goal.invariant-loop-i

@@ -1,11 +1,9 @@
 -- `lines::ending` meets its contract. Assumes nothing.
 use Rattle.rows.proofs.Rows.{full_up_to}
 use Rattle.lines.proofs.Doing.{no_parameters, no_rates, no_house, not_ended, ending_all}
-use Prim.Native.Nat.{◌-◌}
 use mathlib.Core.Path.{ap}
 use lib.ListN.{length, drop}
 use native.Mathlib.Omega.{arith}
-use borrow.Author.Rules.{rules}
 use Rattle.lines.proofs.ending.Goals as goal
 
 pub returns-then-first-ne6 : goal.returns-then-first-ne6

@@ -3,11 +3,10 @@ use mathlib.Core.List.{List}
 use Rattle.opening.proofs.Copying.{copy_next, copy_end}
 use lib.Seq.{paste-zero, take-length}
 use lib.Seq as seq
-use Prim.Native.Nat.{ℕ, ◌≤◌, ◌+◌, ◌-◌}
+use Prim.Native.Nat.{ℕ, ◌+◌}
 use mathlib.Core.Path.{◌≡◌, refl, ap, ◌∙◌}
 use lib.ListN.{length, get_or, set, length-set}
 use native.Mathlib.Omega.{arith}
-use borrow.Author.Rules.{rules}
 use Rattle.lines.proofs.file.Goals as goal
 
 pub loop-i-init : goal.loop-i-init

@@ -1,13 +1,9 @@
 -- `lines::file` meets its contract: the numbers are copied. Assumes nothing.
-use mathlib.Core.List.{List}
-use Rattle.opening.proofs.Copying.{copy_next, copy_end}
 use lib.Seq.{paste-zero, take-length}
 use lib.Seq as seq
-use Prim.Native.Nat.{ℕ, ◌≤◌, ◌+◌, ◌-◌}
-use mathlib.Core.Path.{◌≡◌, refl, ap, ◌∙◌}
-use lib.ListN.{length, get_or, set, length-set}
-use native.Mathlib.Omega.{arith}
-use borrow.Author.Rules.{rules}
+use Prim.Native.Nat.{◌≤◌, ◌-◌}
+use mathlib.Core.Path.{◌≡◌}
+use lib.ListN.{length}
 use Rattle.lines.proofs.file.Given as goal
 
 abbrev pub invariant-loop-i : goal.invariant-loop-i

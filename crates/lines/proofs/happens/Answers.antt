@@ -1,5 +1,4 @@
 -- `lines::happens` meets its contract. Assumes nothing.
-use borrow.Author.Rules.{rules}
 use Rattle.lines.proofs.happens.Goals as goal
 
 pub returns : goal.returns

@@ -3,10 +3,8 @@ use Rattle.lines.proofs.Doing.{done_wrong, said_long, said_empty, said_open, sai
 use Rattle.lines.specs.Line.{Done}
 use Rattle.lines.specs.Trace.{Said}
 use mathlib.Core.Path.{subst}
-use Prim.Native.Nat.{◌-◌}
 use mathlib.Core.Path.{sym}
 use native.Mathlib.Omega.{arith}
-use borrow.Author.Rules.{rules}
 use Rattle.lines.proofs.obey.Goals as goal
 
 pub returns-then-line-gt256 : goal.returns-then-line-gt256

@@ -6,10 +6,9 @@ use Rattle.lines.specs.Trace.{Said}
 use Rattle.text.specs.declared.Num.{Num}
 use Rattle.text.specs.Number.{value_of}
 use mathlib.Core.Path.{subst}
-use Prim.Native.Nat.{◌≤◌, ◌-◌}
+use Prim.Native.Nat.{◌≤◌}
 use mathlib.Core.Path.{sym}
 use native.Mathlib.Omega.{arith}
-use borrow.Author.Rules.{rules}
 use Rattle.lines.proofs.open_line.Goals as goal
 
 pub returns-in_default : goal.returns-in_default

@@ -3,7 +3,6 @@ use Rattle.lines.proofs.Doing.{done_wrong, done_open}
 use Rattle.lines.specs.Held.{ending_by}
 use Rattle.lines.specs.Trace.{opens_by}
 use mathlib.Core.Path.{sym, ap, ◌∙◌}
-use borrow.Author.Rules.{rules}
 use Rattle.lines.proofs.open_with.Goals as goal
 
 pub returns-in-Nothing : goal.returns-in-Nothing

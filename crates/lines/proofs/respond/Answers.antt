@@ -5,8 +5,6 @@ use Rattle.lines.specs.Line.{Done}
 use Rattle.lines.specs.Trace.{said_by}
 use Rattle.lines.specs.declared.Reply.{Reply}
 use mathlib.Core.Path.{subst}
-use Prim.Native.Nat.{◌-◌}
-use borrow.Author.Rules.{rules}
 use Rattle.lines.proofs.respond.Goals as goal
 
 pub returns-in-Numbers : goal.returns-in-Numbers

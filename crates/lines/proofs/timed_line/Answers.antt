@@ -2,10 +2,8 @@
 use Rattle.lines.proofs.Doing.{done_wrong, done_call, done_bad, timed_none, timed_other, timed_more, timed_all}
 use Rattle.buffer.proofs.Goodness.{good_shape}
 use lib.Seq.{length-take-le}
-use Prim.Native.Nat.{◌-◌}
 use mathlib.Core.Path.{sym, ◌∙◌}
 use native.Mathlib.Omega.{arith}
-use borrow.Author.Rules.{rules}
 use Rattle.lines.proofs.timed_line.Goals as goal
 
 pub returns-then-count-eq0 : goal.returns-then-count-eq0

@@ -3,7 +3,6 @@ use mathlib.Core.Path.{◌∙◌}
 use native.Mathlib.Omega.{arith}
 use Rattle.opening.proofs.Copying.{stored}
 use Rattle.lines.specs.Line.{printed_two}
-use borrow.Author.Rules.{rules}
 use Rattle.lines.proofs.two.Goals as goal
 
 pub returns : goal.returns

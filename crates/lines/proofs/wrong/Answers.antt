@@ -1,11 +1,9 @@
 -- `lines::wrong` meets its contract. Assumes nothing.
 use Rattle.lines.specs.Line.{printed_wrong}
 use Rattle.opening.proofs.Copying.{stored}
-use Prim.Native.Nat.{◌-◌}
 use mathlib.Core.Path.{refl}
 use lib.ListN.{length-set}
 use native.Mathlib.Omega.{arith}
-use borrow.Author.Rules.{rules}
 use Rattle.lines.proofs.wrong.Goals as goal
 
 pub bounds-out-1 : goal.bounds-out-1

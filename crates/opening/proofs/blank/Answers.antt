@@ -1,9 +1,9 @@
 -- `opening::blank` meets its contract: the places passed are 0, the others as they were. Assumes nothing.
 use mathlib.Core.Path.{◌≡◌, refl, ◌∙◌}
-use mathlib.Core.List.{List, ◌++◌, append-nil}
-use Prim.Native.Nat.{ℕ, ◌≤◌, ◌-◌}
+use mathlib.Core.List.{List, append-nil}
+use Prim.Native.Nat.{ℕ}
 use native.Mathlib.Omega.{arith}
-use lib.ListN.{length, drop, replicate, length-set, drop_of_length-le}
+use lib.ListN.{replicate, length-set, drop_of_length-le}
 use borrow.Author.Fill.{fill_more}
 use Rattle.buffer.specs.Places.{SIZE}
 use Rattle.opening.proofs.blank.Goals as goal

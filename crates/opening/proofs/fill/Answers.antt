@@ -2,7 +2,6 @@
 use mathlib.Core.List.{[]}
 use Rattle.opening.specs.Open.{order}
 use Rattle.opening.proofs.Filling.{filled}
-use borrow.Author.Rules.{rules}
 use Rattle.opening.proofs.fill.Goals as goal
 
 pub returns : goal.returns

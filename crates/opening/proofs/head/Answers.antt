@@ -6,7 +6,6 @@ use lib.ListN.{length-set}
 use Rattle.buffer.specs.Places.{CURRENT, LETTERS}
 use Rattle.buffer.specs.Layout.{letters}
 use Rattle.opening.proofs.Copying.{stored}
-use borrow.Author.Rules.{rules}
 use Rattle.opening.proofs.head.Goals as goal
 
 pub bounds-s-4 : goal.bounds-s-4

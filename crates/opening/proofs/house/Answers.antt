@@ -3,7 +3,6 @@ use mathlib.Core.List.{[], ◌∷◌}
 use native.Mathlib.Omega.{arith}
 use Rattle.buffer.specs.Places.{HOUSE}
 use Rattle.opening.proofs.Copying.{stored}
-use borrow.Author.Rules.{rules}
 use Rattle.opening.proofs.house.Goals as goal
 
 pub returns : goal.returns

@@ -1,6 +1,5 @@
 -- `opening::in_order` meets its contract. Assumes nothing.
 use Rattle.opening.specs.Open.{settings}
-use borrow.Author.Rules.{rules}
 use Rattle.opening.proofs.in_order.Goals as goal
 
 pub returns : goal.returns

@@ -1,14 +1,11 @@
 -- `opening::intervals` meets its contract: the intervals passed are copied, and zeros past their end. Assumes nothing.
-use mathlib.Core.Path.{◌≡◌, ◌∙◌}
+use mathlib.Core.Path.{◌≡◌}
 use Prim.Native.Nat.{◌≤◌, ◌-◌}
-use native.Mathlib.Omega.{arith}
-use lib.ListN.{length, length-set}
+use lib.ListN.{length}
 use lib.Seq as seq
 use lib.Seq.{paste-zero}
 use Rattle.buffer.specs.Places.{SIZE, INTERVALS}
 use Rattle.buffer.specs.Segments.{pad}
-use Rattle.opening.proofs.Copying.{pad_next, pad_end}
-use borrow.Author.Rules.{rules}
 use Rattle.opening.proofs.intervals.Given as goal
 
 abbrev pub invariant-loop-i : goal.invariant-loop-i

@@ -1,5 +1,4 @@
 -- `opening::limits` meets its contract. Assumes nothing.
-use borrow.Author.Rules.{rules}
 use Rattle.opening.proofs.limits.Goals as goal
 
 pub returns : goal.returns

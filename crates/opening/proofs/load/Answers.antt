@@ -1,12 +1,10 @@
 -- `opening::load` meets its contract: the bytes passed are copied. Assumes nothing.
 use mathlib.Core.Path.{◌≡◌, ◌∙◌}
 use mathlib.Core.List.{List}
-use Prim.Native.Nat.{ℕ, ◌≤◌, ◌-◌}
+use Prim.Native.Nat.{ℕ}
 use native.Mathlib.Omega.{arith}
 use lib.ListN.{length, length-set}
-use lib.Seq as seq
 use lib.Seq.{paste-zero, take_all}
-use Rattle.buffer.specs.Places.{SIZE}
 use Rattle.opening.proofs.Copying.{copy_next, copy_end}
 use Rattle.opening.proofs.load.Goals as goal
 

@@ -1,13 +1,10 @@
 -- `opening::load` meets its contract: the bytes passed are copied. Assumes nothing.
-use mathlib.Core.Path.{◌≡◌, ◌∙◌}
-use mathlib.Core.List.{List}
-use Prim.Native.Nat.{ℕ, ◌≤◌, ◌-◌}
-use native.Mathlib.Omega.{arith}
-use lib.ListN.{length, length-set}
+use mathlib.Core.Path.{◌≡◌}
+use Prim.Native.Nat.{◌≤◌, ◌-◌}
+use lib.ListN.{length}
 use lib.Seq as seq
 use lib.Seq.{paste-zero, take_all}
 use Rattle.buffer.specs.Places.{SIZE}
-use Rattle.opening.proofs.Copying.{copy_next, copy_end}
 use Rattle.opening.proofs.load.Given as goal
 
 abbrev pub invariant-loop-i : goal.invariant-loop-i

@@ -5,7 +5,6 @@ use borrow.Author.Tests.{eq-eqb, ne_eqb, le-leb, lt-leb}
 use Rattle.buffer.proofs.Tests.{no_of, yes_of}
 use Rattle.opening.specs.Open.{order}
 use Rattle.opening.proofs.Cases.{tested, laid, in_order, says_length, says_range, says_late, says_new}
-use borrow.Author.Rules.{rules}
 use mathlib.Core.Bool.{not}
 use Rattle.opening.proofs.open.Goals as goal
 

@@ -8,7 +8,6 @@ use Rattle.buffer.specs.Layout.{facts_of}
 use Rattle.buffer.specs.Places.{STANDING}
 use Rattle.buffer.specs.Segments.{part}
 use Rattle.buffer.proofs.Segments.{part_at}
-use borrow.Author.Rules.{rules}
 use Rattle.outcome.proofs.asked.Goals as goal
 
 pub returns-then-service-gt3 : goal.returns-then-service-gt3

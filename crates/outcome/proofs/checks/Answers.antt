@@ -2,7 +2,6 @@
 use mathlib.Core.Path.{◌∙◌}
 use Rattle.buffer.specs.Layout.{facts_of}
 use Rattle.rules.specs.Rules.{check}
-use borrow.Author.Rules.{rules}
 use Rattle.outcome.proofs.checks.Goals as goal
 
 pub returns : goal.returns

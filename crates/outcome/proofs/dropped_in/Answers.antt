@@ -3,7 +3,6 @@ use Rattle.rules.specs.declared.Event.TheVariants.{Dropped as dropped}
 use Rattle.buffer.specs.Layout.{facts_of}
 use Rattle.clock.proofs.Saying.{says_number}
 use Rattle.outcome.proofs.Outcomes.{dropped_refusal, says_dropped}
-use borrow.Author.Rules.{rules}
 use Rattle.outcome.proofs.dropped_in.Goals as goal
 
 pub returns-then-n-ne0 : goal.returns-then-n-ne0

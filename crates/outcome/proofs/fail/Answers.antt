@@ -22,5 +22,8 @@ returns c =
     let i : ℕ = c.args.i in
     let a = c.failing-a in
     let long : eqb a.result.number 20 ≡ true → a.result.second ≡ wait (facts_of c.args.s.now) i =
-    λ e. ap (λ (y : Answer). y.second) a.ensures ∙ failed_wait (facts_of c.args.s.now) i c.args.n (rw (← a.ensures) e) in record { value = a.ensures; s_after = fails c.args.s.now c.requires.s_value c.args.t i c.requires.i_bound a.result.number c.args.m a.result.second long
-          c.over.ensures c.back.ensures }
+    λ e. ap (λ (y : Answer). y.second) a.ensures ∙ failed_wait (facts_of c.args.s.now) i c.args.n (rw (← a.ensures) e) in record {
+      value = a.ensures;
+      s_after = fails c.args.s.now c.requires.s_value c.args.t i c.requires.i_bound a.result.number c.args.m a.result.second long
+          c.over.ensures c.back.ensures;
+    }

@@ -17,5 +17,8 @@ pub returns : goal.returns
 returns c =
     let a = c.failing-a in
     let w = c.wait-first in
-    let v = c.wait-other in record { value = a.ensures; s_after = fails_both c.args.s.now c.requires.s_value c.args.t c.args.i c.requires.i_bound a.result.number c.args.m
-          w.result v.result w.ensures v.ensures c.over.ensures c.back.ensures c.back-2.ensures }
+    let v = c.wait-other in record {
+      value = a.ensures;
+      s_after = fails_both c.args.s.now c.requires.s_value c.args.t c.args.i c.requires.i_bound a.result.number c.args.m
+          w.result v.result w.ensures v.ensures c.over.ensures c.back.ensures c.back-2.ensures;
+    }

@@ -4,7 +4,6 @@ use Prim.Native.Nat.{ℕ}
 use Rattle.backoff.specs.Backoffs.{stored}
 use Rattle.outcome.specs.Outcome.{rested}
 use Rattle.outcome.proofs.Outcomes.{grants}
-use borrow.Author.Rules.{rules}
 use Rattle.outcome.proofs.grant.Goals as goal
 
 pub returns : goal.returns

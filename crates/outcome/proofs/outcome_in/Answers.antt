@@ -1,5 +1,4 @@
 -- `outcome::outcome_in` meets its contract, outcome by outcome. Assumes nothing.
-use borrow.Author.Rules.{rules}
 use Rattle.outcome.proofs.outcome_in.Goals as goal
 
 pub returns-in-Granted : goal.returns-in-Granted

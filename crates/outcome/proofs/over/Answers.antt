@@ -3,7 +3,6 @@ use mathlib.Core.Path.{ap, ◌∙◌}
 use Prim.Native.Nat.{ℕ}
 use mathlib.Core.List.{List}
 use Rattle.outcome.specs.Outcome.{rested}
-use borrow.Author.Rules.{rules}
 use Rattle.outcome.proofs.over.Goals as goal
 
 pub returns : goal.returns

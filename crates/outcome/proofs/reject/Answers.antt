@@ -2,7 +2,6 @@
 use mathlib.Core.Path.{sym, ◌∙◌}
 use Rattle.causes.proofs.Causes.{action_both}
 use Rattle.outcome.proofs.Outcomes.{rejects}
-use borrow.Author.Rules.{rules}
 use Rattle.outcome.proofs.reject.Goals as goal
 
 pub returns-then-both : goal.returns-then-both

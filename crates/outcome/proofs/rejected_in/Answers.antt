@@ -6,7 +6,6 @@ use Rattle.rules.specs.Rules.{in_range}
 use Rattle.rules.proofs.Checks.{and_left}
 use Rattle.clock.proofs.Saying.{says_number}
 use Rattle.outcome.proofs.Outcomes.{low, rejected_refusal, passed_range, passed_time, says_rejected}
-use borrow.Author.Rules.{rules}
 use Rattle.outcome.proofs.rejected_in.Goals as goal
 
 pub returns-then-n-ne0 : goal.returns-then-n-ne0

@@ -1,7 +1,6 @@
 -- `outcome::rest` meets its contract. Assumes nothing.
 use borrow.Author.Tests.{eq-eqb, ne_eqb}
 use Rattle.outcome.specs.Outcome.{rested}
-use borrow.Author.Rules.{rules}
 use Rattle.outcome.proofs.rest.Goals as goal
 
 pub returns-then-i-eq2 : goal.returns-then-i-eq2

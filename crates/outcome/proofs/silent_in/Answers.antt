@@ -4,7 +4,6 @@ use Rattle.rules.specs.declared.Outcome.TheVariants.{Silent as silent}
 use Rattle.rules.specs.Rules.{refusal, in_range, stands}
 use Rattle.clock.proofs.Saying.{says_number}
 use Rattle.outcome.proofs.Outcomes.{low, passed_range, passed_time, says_silent}
-use borrow.Author.Rules.{rules}
 use Rattle.outcome.proofs.silent_in.Goals as goal
 
 pub returns-then-n-ne0 : goal.returns-then-n-ne0

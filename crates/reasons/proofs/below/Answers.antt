@@ -1,7 +1,6 @@
 -- `reasons::below` meets its contract. Assumes nothing.
 use mathlib.Core.Path.{refl}
 use native.Mathlib.Omega.{arith}
-use borrow.Author.Rules.{rules}
 use Rattle.reasons.proofs.below.Goals as goal
 
 pub returns-then-b : goal.returns-then-b

@@ -1,6 +1,5 @@
 -- `reasons::first` meets its contract: the lowest bit's place is what `number` is asked for.
 -- Assumes nothing.
-use borrow.Author.Rules.{rules}
 use Rattle.reasons.proofs.first.Goals as goal
 
 pub returns : goal.returns

@@ -8,7 +8,6 @@ use Rattle.rules.specs.Rules.{refusal}
 use Rattle.rules.proofs.Checks.{on_time}
 use Rattle.buffer.specs.Layout.{facts_of}
 use Rattle.deciding.proofs.Deciding.{row_stands, row_rises, row_on, row_time, row_off}
-use borrow.Author.Rules.{rules}
 use Rattle.reasons.proofs.look.Goals as goal
 
 late : (b : List ℕ) (t q : ℕ) → refusal (facts_of b) (timed t (ask q)) ≡ 0 → (facts_of b).last ≤ t

@@ -2,7 +2,6 @@
 use mathlib.Core.Path.{sym}
 use lib.ListN.{get_or-eq_default}
 use Rattle.rules.specs.Tables.{rules as listed_rules}
-use borrow.Author.Rules.{rules}
 use Rattle.reasons.proofs.number.Goals as goal
 
 pub returns-else-place-lt8 : goal.returns-else-place-lt8

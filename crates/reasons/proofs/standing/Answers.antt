@@ -4,7 +4,6 @@ use lib.Dec.{lit<}
 use Rattle.rules.specs.Rules.{limits}
 use Rattle.buffer.specs.Layout.{view}
 use Rattle.reasons.proofs.Alone.{said, said_held}
-use borrow.Author.Rules.{rules}
 use Rattle.reasons.proofs.standing.Goals as goal
 
 pub look-s1-requires : goal.look-s1-requires

@@ -1,9 +1,7 @@
 -- `reasons::why` meets its contract. Assumes nothing.
 use mathlib.Core.Path.{sym, ◌∙◌}
-use borrow.Author.Tests.{not-true, not-false}
 use Rattle.clock.proofs.Saying.{known_good}
 use Rattle.reasons.specs.Why.{why_of}
-use borrow.Author.Rules.{rules}
 use mathlib.Core.Path.{ap}
 use mathlib.Core.Bool.{not}
 use Rattle.reasons.proofs.why.Goals as goal

@@ -2,7 +2,6 @@
 use mathlib.Core.Path.{◌∙◌}
 use Rattle.buffer.specs.Layout.{view}
 use Rattle.reasons.proofs.Alone.{refused_said}
-use borrow.Author.Rules.{rules}
 use Rattle.reasons.proofs.why_in.Goals as goal
 
 pub returns-then-n-ne0 : goal.returns-then-n-ne0

@@ -1,7 +1,6 @@
 -- `reasons::why_into` meets its contract. Assumes nothing.
 use native.Mathlib.Omega.{arith}
 use Rattle.reasons.proofs.Room.{room_other, room_refused, room_said}
-use borrow.Author.Rules.{rules}
 use Rattle.reasons.proofs.why_into.Goals as goal
 
 pub returns-then-times-ne8 : goal.returns-then-times-ne8

@@ -1,5 +1,4 @@
 -- `request::bump` meets its contract. Assumes nothing.
-use borrow.Author.Rules.{rules}
 use Rattle.request.proofs.bump.Goals as goal
 
 pub returns : goal.returns

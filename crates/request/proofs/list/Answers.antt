@@ -8,7 +8,6 @@ use Rattle.buffer.specs.Lists.{permitted}
 use Rattle.buffer.proofs.Listing.{row_listed}
 use Rattle.buffer.proofs.Laid.{laid_shaped, laid_as, laid_permit, laid_listed}
 use Rattle.request.specs.Request.{listed}
-use borrow.Author.Rules.{rules}
 use Rattle.request.proofs.list.Goals as goal
 
 pub permit_on-requires : goal.permit_on-requires

@@ -2,7 +2,6 @@
 use mathlib.Core.Path.{sym, ◌∙◌}
 use Rattle.buffer.proofs.Laid.{laid_shape}
 use Rattle.clock.proofs.Leaking.{laid_moved}
-use borrow.Author.Rules.{rules}
 use Rattle.request.proofs.Requests.{request_refused, request_permits, request_blocked}
 use Rattle.request.proofs.request_in.Goals as goal
 

@@ -1,5 +1,4 @@
 -- `request::send` meets its contract. Assumes nothing.
-use borrow.Author.Rules.{rules}
 use Rattle.request.proofs.Acting.{stood_shape, sent_reset, sent_other}
 use Rattle.request.proofs.send.Goals as goal
 

@@ -3,7 +3,6 @@ use mathlib.Core.Path.{◌∙◌}
 use lib.ListN.{set}
 use borrow.Author.Tests.{le-leb, lt-leb, eq-eqb, ne_eqb}
 use Rattle.request.specs.Request.{stood}
-use borrow.Author.Rules.{rules}
 use Rattle.request.proofs.stand.Goals as goal
 
 pub returns-then-q-le3 : goal.returns-then-q-le3

@@ -1,6 +1,5 @@
 -- `request::tally` meets its contract. Assumes nothing.
 use mathlib.Core.Path.{sym, ◌∙◌}
-use borrow.Author.Tests.{not-true, not-false}
 use Rattle.request.specs.Request.{tallied}
 use Rattle.request.proofs.Acting.{counter_of}
 use borrow.Author.Rules.{rules}

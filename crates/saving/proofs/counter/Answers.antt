@@ -2,7 +2,6 @@
 use mathlib.Core.Path.{◌∙◌}
 use native.Mathlib.Omega.{arith}
 use Rattle.saving.proofs.Saved.{counter_is, counter_byte}
-use borrow.Author.Rules.{rules}
 use Rattle.saving.proofs.counter.Goals as goal
 
 pub overflow_cast-result : goal.overflow_cast-result

@@ -3,7 +3,6 @@ use borrow.Author.Tests.{eq-eqb, ne_eqb}
 use Rattle.buffer.proofs.Tests.{no_of, yes_of}
 use Rattle.buffer.proofs.Goodness.{good_shape}
 use Rattle.saving.proofs.Saved.{says_room, says_bad, says_written}
-use borrow.Author.Rules.{rules}
 use mathlib.Core.Path.{ap}
 use mathlib.Core.Bool.{not}
 use Rattle.saving.proofs.save.Goals as goal

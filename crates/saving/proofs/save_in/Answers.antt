@@ -1,6 +1,5 @@
 -- `saving::save_in` meets its contract. Assumes nothing.
 use Rattle.card.specs.Card.{written}
-use borrow.Author.Rules.{rules}
 use Rattle.saving.proofs.save_in.Goals as goal
 
 pub returns : goal.returns

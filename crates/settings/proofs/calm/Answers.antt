@@ -1,5 +1,4 @@
 -- `settings::calm` meets its contract. Assumes nothing.
-use borrow.Author.Rules.{rules}
 use Rattle.settings.proofs.calm.Goals as goal
 
 pub returns : goal.returns

@@ -1,5 +1,4 @@
 -- `settings::calm_all` meets its contract. Assumes nothing.
-use borrow.Author.Rules.{rules}
 use Rattle.settings.proofs.calm_all.Goals as goal
 
 pub returns : goal.returns

@@ -1,7 +1,6 @@
 -- `settings::turn` meets its contract. Assumes nothing.
 use borrow.Author.Tests.{eq-eqb, ne_eqb}
 use Rattle.settings.specs.Settings.{turned}
-use borrow.Author.Rules.{rules}
 use Rattle.settings.proofs.turn.Goals as goal
 
 pub returns-then-a-eq0 : goal.returns-then-a-eq0

@@ -2,7 +2,6 @@
 use mathlib.Core.Path.{ap, ◌∙◌}
 use mathlib.Core.List.{List}
 use Prim.Native.Nat.{ℕ}
-use borrow.Author.Rules.{rules}
 use Rattle.request.specs.Request.{tallied, sent}
 use Rattle.ticking.proofs.Ticking.{moved_shape}
 use Rattle.ticking.proofs.order.Goals as goal

@@ -1,10 +1,7 @@
 -- `ticking::orders` meets its contract. Assumes nothing.
 use native.Mathlib.Omega.{arith}
-use borrow.Author.Rules.{rules}
 use Rattle.deciding.proofs.Deciding.{row_stands, row_rises}
 use Rattle.ticking.proofs.Ticking.{none_due, too_early, rpm_off, by_N1}
-use mathlib.Core.Path.{ap}
-use mathlib.Core.Bool.{not}
 use Rattle.ticking.proofs.orders.Goals as goal
 
 pub returns-then-due-eq0 : goal.returns-then-due-eq0

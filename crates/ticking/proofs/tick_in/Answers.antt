@@ -1,7 +1,5 @@
 -- `ticking::tick_in` meets its contract. Assumes nothing.
 use mathlib.Core.Path.{sym, ◌∙◌}
-use borrow.Author.Tests.{not-true, not-false}
-use borrow.Author.Rules.{rules}
 use Rattle.buffer.specs.Layout.{facts_of}
 use Rattle.ticking.proofs.Ticking.{in_time, ticks_late, ticks, resets}
 use Rattle.ticking.proofs.tick_in.Goals as goal

@@ -1,5 +1,4 @@
 -- `timer::due` meets its contract. Assumes nothing.
-use borrow.Author.Rules.{rules}
 use Rattle.buffer.proofs.Sane.{imsi_low}
 use Rattle.timer.proofs.Timer.{T1_low, not_permanent, not_begun, begun, due_fits}
 use mathlib.Core.Path.{ap}

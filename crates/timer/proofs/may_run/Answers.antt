@@ -1,5 +1,4 @@
 -- `timer::may_run` meets its contract. Assumes nothing.
-use borrow.Author.Rules.{rules}
 use Rattle.buffer.specs.Layout.{facts_of}
 use Rattle.timer.proofs.may_run.Goals as goal
 

@@ -2,10 +2,10 @@
 -- nothing.
 use mathlib.Core.Path.{◌≡◌, refl, ap, ◌∙◌}
 use mathlib.Core.List.{List, ◌++◌}
-use Prim.Native.Nat.{ℕ, ◌≤◌, ◌-◌}
+use Prim.Native.Nat.{ℕ}
 use native.Mathlib.Omega.{arith}
-use lib.ListN.{length, take, drop, set, length-set}
-use Rattle.buffer.specs.Places.{SIZE, BASE, CURRENT, VERSION, DUE}
+use lib.ListN.{take, drop, set, length-set}
+use Rattle.buffer.specs.Places.{BASE, CURRENT, VERSION, DUE}
 use Rattle.turning.proofs.Turned.{copy_next, copy_end}
 use Rattle.turning.proofs.copy.Goals as goal
 

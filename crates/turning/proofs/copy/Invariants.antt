@@ -1,12 +1,10 @@
 -- `turning::copy` meets its contract: the places are copied, and two stores follow. Assumes
 -- nothing.
-use mathlib.Core.Path.{◌≡◌, refl, ap, ◌∙◌}
-use mathlib.Core.List.{List, ◌++◌}
-use Prim.Native.Nat.{ℕ, ◌≤◌, ◌-◌}
-use native.Mathlib.Omega.{arith}
-use lib.ListN.{length, take, drop, set, length-set}
-use Rattle.buffer.specs.Places.{SIZE, BASE, CURRENT, VERSION, DUE}
-use Rattle.turning.proofs.Turned.{copy_next, copy_end}
+use mathlib.Core.Path.{◌≡◌}
+use mathlib.Core.List.{◌++◌}
+use Prim.Native.Nat.{◌≤◌, ◌-◌}
+use lib.ListN.{length, take, drop}
+use Rattle.buffer.specs.Places.{SIZE, BASE}
 use Rattle.turning.proofs.copy.Given as goal
 
 abbrev pub invariant-loop-i : goal.invariant-loop-i

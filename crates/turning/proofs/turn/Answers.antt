@@ -1,5 +1,4 @@
 -- `turning::turn` meets its contract. Assumes nothing.
-use borrow.Author.Rules.{rules}
 use Rattle.turning.proofs.Turned.{says_1, says_0, no_version_1, long_enough, no_room, can_turn}
 use mathlib.Core.Path.{ap}
 use mathlib.Core.Bool.{not}

@@ -5,7 +5,6 @@ use Rattle.rules.specs.Rules.{verdict}
 use Rattle.buffer.specs.Layout.{facts_of}
 use Rattle.outcome.proofs.Outcomes.{dropped_refusal}
 use Rattle.verdicts.proofs.Verdicts.{checks_only}
-use borrow.Author.Rules.{rules}
 use Rattle.verdicts.proofs.of_dropped.Goals as goal
 
 pub returns : goal.returns

@@ -4,7 +4,6 @@ use Rattle.rules.specs.declared.Event.TheVariants.{Outcome as outcome}
 use Rattle.rules.specs.declared.Outcome.TheVariants.{Granted as granted}
 use Rattle.rules.specs.Rules.{refusal, in_range, stands, verdict}
 use Rattle.verdicts.proofs.Verdicts.{checks_only}
-use borrow.Author.Rules.{rules}
 use Rattle.verdicts.proofs.of_granted.Goals as goal
 
 pub returns : goal.returns

@@ -1,5 +1,4 @@
 -- `verdicts::of_outcome` meets its contract, outcome by outcome. Assumes nothing.
-use borrow.Author.Rules.{rules}
 use Rattle.verdicts.proofs.of_outcome.Goals as goal
 
 pub returns-in-Granted : goal.returns-in-Granted

@@ -8,7 +8,6 @@ use Rattle.rules.proofs.Checks.{and_left}
 use Rattle.buffer.specs.Layout.{facts_of}
 use Rattle.outcome.proofs.Outcomes.{low, rejected_refusal, passed_range}
 use Rattle.verdicts.proofs.Verdicts.{refuses, accepts}
-use borrow.Author.Rules.{rules}
 use Rattle.verdicts.proofs.of_rejected.Goals as goal
 
 pub returns-then-n-ne0 : goal.returns-then-n-ne0

@@ -4,7 +4,6 @@ use Rattle.rules.specs.declared.Outcome.TheVariants.{Silent as silent}
 use Rattle.rules.specs.Rules.{refusal, in_range, stands, verdict}
 use Rattle.outcome.proofs.Outcomes.{low, passed_range}
 use Rattle.verdicts.proofs.Verdicts.{refuses, accepts}
-use borrow.Author.Rules.{rules}
 use Rattle.verdicts.proofs.of_silent.Goals as goal
 
 pub returns-then-n-ne0 : goal.returns-then-n-ne0

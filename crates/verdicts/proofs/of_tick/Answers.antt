@@ -1,10 +1,8 @@
 -- `verdicts::of_tick` meets its contract. Assumes nothing.
 use mathlib.Core.Path.{sym, ◌∙◌}
 use mathlib.Core.Bool.{true, false}
-use borrow.Author.Tests.{not-true, not-false}
 use Rattle.buffer.specs.Layout.{facts_of}
 use Rattle.ticking.proofs.Ticking.{in_time, late, ruled}
-use borrow.Author.Rules.{rules}
 use Rattle.verdicts.proofs.of_tick.Goals as goal
 
 pub returns-then-not-timely : goal.returns-then-not-timely

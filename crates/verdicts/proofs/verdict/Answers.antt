@@ -1,5 +1,4 @@
 -- `verdicts::verdict` meets its contract, event by event. Assumes nothing.
-use borrow.Author.Rules.{rules}
 use Rattle.verdicts.proofs.verdict.Goals as goal
 
 pub returns-in-Ask : goal.returns-in-Ask

@@ -2,7 +2,6 @@
 use Prim.Native.Nat.{◌+◌, min}
 use mathlib.Core.Path.{◌≡◌}
 use native.Mathlib.Omega.{arith}
-use borrow.Author.Rules.{rules}
 use Rattle.backoff.proofs.Backoff.failed.Goals as goal
 
 pub returns-then-failures-lt255 : goal.returns-then-failures-lt255

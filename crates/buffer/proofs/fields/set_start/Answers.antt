@@ -1,6 +1,5 @@
 -- `buffer::fields::set_start` meets its contract: the one place is Start Timer's. Assumes nothing.
 use mathlib.Core.Path.{refl}
-use borrow.Author.Rules.{rules}
 use Rattle.buffer.proofs.fields.set_start.Goals as goal
 
 pub returns : goal.returns

@@ -8,7 +8,6 @@ use lib.ListN.{length, get_or, set}
 use Rattle.permits.specs.Permits.{appended}
 use Rattle.buffer.specs.Segments.{part, paste}
 use Rattle.buffer.proofs.Listing.{back, appended_length}
-use borrow.Author.Rules.{rules}
 use Rattle.buffer.proofs.lists.permit_on.Goals as goal
 
 -- a list has 255 places

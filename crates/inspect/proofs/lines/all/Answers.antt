@@ -2,7 +2,6 @@
 use mathlib.Core.Path.{◌∙◌}
 use Rattle.buffer.proofs.Tests.{both, no_of, yes_of}
 use Rattle.inspect.proofs.Judged.{wrong_counts, few_intervals, short_lists, all_lines}
-use borrow.Author.Rules.{rules}
 use mathlib.Core.Path.{ap}
 use mathlib.Core.Bool.{not}
 use Rattle.inspect.proofs.lines.all.Goals as goal

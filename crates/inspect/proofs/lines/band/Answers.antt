@@ -2,7 +2,6 @@
 use mathlib.Core.Path.{ap, ◌∙◌}
 use Rattle.buffer.specs.Good.{at_most}
 use Rattle.inspect.proofs.Scans.{span}
-use borrow.Author.Rules.{rules}
 use Rattle.inspect.proofs.lines.band.Goals as goal
 
 pub returns : goal.returns

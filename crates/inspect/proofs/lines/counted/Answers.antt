@@ -1,6 +1,5 @@
 -- `inspect::lines::counted` meets its contract. Assumes nothing.
 use Rattle.buffer.specs.Good.{count_good}
-use borrow.Author.Rules.{rules}
 use Rattle.inspect.proofs.lines.counted.Goals as goal
 
 pub returns : goal.returns

@@ -5,7 +5,6 @@ use lib.ListN.{get_or}
 use borrow.Author.Tests.{lt-ltb}
 use Rattle.buffer.specs.Layout.{facts_of}
 use Rattle.buffer.specs.Good.{lines, times_good, imsi_good, flags_good}
-use borrow.Author.Rules.{rules}
 use Rattle.inspect.proofs.lines.headed.Goals as goal
 
 pub returns : goal.returns

@@ -8,7 +8,6 @@ use Rattle.buffer.specs.Layout.{facts_of}
 use Rattle.buffer.specs.Good.{at_most, lines}
 use Rattle.buffer.proofs.Tests.{both}
 use Rattle.inspect.proofs.Scans.{span, spare}
-use borrow.Author.Rules.{rules}
 use Rattle.inspect.proofs.lines.scheduled.Goals as goal
 
 pub returns : goal.returns

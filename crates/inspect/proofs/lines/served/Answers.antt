@@ -5,7 +5,6 @@ use lib.Dec.{lit<}
 use Rattle.buffer.specs.Layout.{facts_of}
 use Rattle.buffer.specs.Good.{lines, ends_good, standing_good, mood_good}
 use Rattle.buffer.proofs.Segments.{part_at}
-use borrow.Author.Rules.{rules}
 use Rattle.inspect.proofs.lines.served.Goals as goal
 
 pub returns : goal.returns

@@ -9,7 +9,6 @@ use Rattle.buffer.specs.Layout.{facts_of}
 use Rattle.buffer.specs.Good.{bytes, lines}
 use Rattle.buffer.proofs.Tests.{both}
 use Rattle.buffer.proofs.Segments.{spelled, spell}
-use borrow.Author.Rules.{rules}
 use Rattle.inspect.proofs.lines.small.Goals as goal
 
 pub returns : goal.returns

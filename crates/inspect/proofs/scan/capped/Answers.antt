@@ -1,11 +1,6 @@
 -- `inspect::scan::capped` meets its contract: the flag and what is left decide. Assumes nothing.
-use mathlib.Core.Path.{◌≡◌, refl}
-use mathlib.Core.Bool.{◌&&◌}
-use Prim.Native.Nat.{◌≤◌, ◌-◌}
+use mathlib.Core.Path.{refl}
 use native.Mathlib.Omega.{arith}
-use borrow.Author.Rules.{rules}
-use lib.ListN.{length, drop}
-use Rattle.buffer.specs.Good.{at_most}
 use Rattle.inspect.proofs.Scans.{at_most_next, at_most_end}
 use Rattle.inspect.proofs.scan.capped.Goals as goal
 

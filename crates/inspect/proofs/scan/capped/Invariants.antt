@@ -1,12 +1,9 @@
 -- `inspect::scan::capped` meets its contract: the flag and what is left decide. Assumes nothing.
-use mathlib.Core.Path.{◌≡◌, refl}
+use mathlib.Core.Path.{◌≡◌}
 use mathlib.Core.Bool.{◌&&◌}
 use Prim.Native.Nat.{◌≤◌, ◌-◌}
-use native.Mathlib.Omega.{arith}
-use borrow.Author.Rules.{rules}
 use lib.ListN.{length, drop}
 use Rattle.buffer.specs.Good.{at_most}
-use Rattle.inspect.proofs.Scans.{at_most_next, at_most_end}
 use Rattle.inspect.proofs.scan.capped.Given as goal
 
 abbrev pub invariant-loop-i : goal.invariant-loop-i

@@ -1,12 +1,8 @@
 -- `inspect::scan::rising` meets its contract: the flag and what is left, from the last number on,
 -- decide. Assumes nothing.
-use mathlib.Core.Path.{◌≡◌, refl}
-use mathlib.Core.Bool.{◌&&◌}
-use Prim.Native.Nat.{◌≤◌, ◌-◌}
+use mathlib.Core.Path.{refl}
 use native.Mathlib.Omega.{arith}
-use lib.ListN.{length, drop}
-use Rattle.inspect.proofs.Scans.{climbs, last_of, climbs_next, last_next, climbs_end}
-use borrow.Author.Rules.{rules}
+use Rattle.inspect.proofs.Scans.{climbs_next, last_next, climbs_end}
 use Rattle.inspect.proofs.scan.rising.Goals as goal
 
 pub loop-i-init : goal.loop-i-init

@@ -1,12 +1,10 @@
 -- `inspect::scan::rising` meets its contract: the flag and what is left, from the last number on,
 -- decide. Assumes nothing.
-use mathlib.Core.Path.{◌≡◌, refl}
+use mathlib.Core.Path.{◌≡◌}
 use mathlib.Core.Bool.{◌&&◌}
 use Prim.Native.Nat.{◌≤◌, ◌-◌}
-use native.Mathlib.Omega.{arith}
 use lib.ListN.{length, drop}
-use Rattle.inspect.proofs.Scans.{climbs, last_of, climbs_next, last_next, climbs_end}
-use borrow.Author.Rules.{rules}
+use Rattle.inspect.proofs.Scans.{climbs, last_of}
 use Rattle.inspect.proofs.scan.rising.Given as goal
 
 abbrev pub invariant-loop-i : goal.invariant-loop-i
