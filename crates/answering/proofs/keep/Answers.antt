@@ -12,4 +12,4 @@ pub returns-then-rest-gt256 : goal.returns-then-rest-gt256
 returns-then-rest-gt256 c = let p = c.args.p in record { held_bound = (omega arith, (refl, (refl, refl))); kept = kept_over c.args.buf.now p c.args.buf.now c.if-p.false (omega (arith, length-slice p.«start» p.place c.args.buf.now c.requires.1, c.if-rest-gt256.true)) }
 
 pub returns : goal.returns
-returns c = let p = c.args.p in record { held_bound = (omega (arith, c.if-rest-gt256.false), (refl, (refl, refl))); kept = kept_line c.args.buf.now p _ c.if-p.false _ c.shift.ensures }
+returns c = let p = c.args.p in record { held_bound = (omega arith, (refl, (refl, refl))); kept = kept_line c.args.buf.now p _ c.if-p.false _ c.shift.ensures }

@@ -16,4 +16,4 @@ pub slice_bounds-timed-end : goal.slice_bounds-timed-end
 slice_bounds-timed-end c = sym (of_five c.args.x _ c.how_many-n.ensures)
 
 pub timed-requires : goal.timed-requires
-timed-requires c = let h = c.how_many-n.ensures in let l = of_five c.args.x _ h in record { state_len = c.requires.state_len; state_value = c.requires.state_value; rec_len = c.requires.rec_len; v_len = (l ∙ h, omega (arith, l, c.if-n-eq0.false)) }
+timed-requires c = let h = c.how_many-n.ensures in let l = of_five c.args.x _ h in record { state_len = c.requires.state_len; state_value = c.requires.state_value; rec_len = c.requires.rec_len; v_len = (l ∙ h, omega (arith, l)) }

@@ -1,6 +1,7 @@
 -- `turning::turn` meets its contract. Assumes nothing.
 use Rattle.turning.proofs.Turned.{says_1, says_0, no_version_1, long_enough, no_room, can_turn}
 use mathlib.Core.Path.{ap}
+use native.Mathlib.Omega.{arith}
 use mathlib.Core.Bool.{not}
 use Rattle.turning.proofs.turn.Goals as goal
 
@@ -17,9 +18,9 @@ returns-then-s-ne-SIZE c =
 pub copy-requires : goal.copy-requires
 copy-requires c =
     let a = c.args in
-    record { len = long_enough a.old.now a.s.now c.is_good_as.ensures (ap not c.if-not-is_good_as.false); s_len = c.if-s-ne-SIZE.false }
+    record { len = long_enough a.old.now a.s.now c.is_good_as.ensures (ap not c.if-not-is_good_as.false); s_len = omega arith }
 
 pub returns : goal.returns
 returns c =
     let a = c.args in
-    says_0 a.old.now a.s.now (can_turn a.old.now a.s.now c.is_good_as.ensures (ap not c.if-not-is_good_as.false) c.if-s-ne-SIZE.false) c.copy.ensures
+    says_0 a.old.now a.s.now (can_turn a.old.now a.s.now c.is_good_as.ensures (ap not c.if-not-is_good_as.false) (omega arith)) c.copy.ensures
