@@ -5,7 +5,6 @@ use Rattle.clock.proofs.Saying.{known_good, known_bad}
 use Rattle.rules.specs.Calls.{answer, typed}
 use mathlib.Core.Path.{refl}
 use native.Mathlib.Omega.{arith}
-use borrow.Author.Rules.{rules}
 use mathlib.Core.Path.{ap}
 use mathlib.Core.Bool.{not}
 use Rattle.noting.proofs.command.Goals as goal
