@@ -2,10 +2,12 @@
 // started with, and a line on standard error that says why something failed.
 #![tactic(auto)]
 
-ghost use Rattle.std.specs.Prelude.{◌≡◌, ◌≤◌, ◌<◌, ◌↔◌, length, take, IfOk, IsOk};
+ghost use Rattle.std.specs.Prelude.{◌≡◌, ◌≤◌, ◌<◌, ◌↔◌, length, take, IfOk, IsOk, Some};
 ghost use Rattle.std.specs.Str.{IsUtf8};
 ghost use Rattle.std.specs.Io.{ReadsAtMost};
 ghost use Rattle.std.specs.Io.KnownBytes.{Consumes, IsAtEnd};
+ghost use Rattle.std.specs.IoError.{raw_os_error};
+ghost use Rattle.host.specs.Told.{error_of};
 
 use std::env::{Env, FillError};
 use std::io;
@@ -44,7 +46,9 @@ const EINVAL: i32 = 22;
 const ENAMETOOLONG: i32 = 36;
 
 // The error of a word that is missing, or longer than the room for it.
-pub fn no_arg(why: FillError) -> io::Error {
+pub fn no_arg(why: FillError) -> io::Error
+    ensures { raw_os_error result ≡ Some (error_of why) }
+{
     match why {
         FillError::NotPresent => io::Error::from_raw_os_error(EINVAL),
         FillError::TooLong => io::Error::from_raw_os_error(ENAMETOOLONG),
