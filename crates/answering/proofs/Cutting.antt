@@ -6,15 +6,16 @@ use mathlib.Core.Logic.{◌≢◌}
 use Prim.Native.Nat.{ℕ, zero, suc, ◌+◌, ◌-◌, ◌≤◌, ◌<◌}
 use native.Mathlib.Omega.{arith}
 use native.Mathlib.Numerals.{add-one}
-use lib.ListN.{length, get_or, take, drop, set, length-take, length-drop, length-append}
-use lib.Seq.{take-suc-set, drop-set-lt, drop-drop, get_or-drop, take-nil, slice, slice_empty, slice-cons, take-suc, drop-append-le, length-take-le, take-append-add, take-append_seam}
+use lib.ListN.{length, get_or, take, drop, length-take, length-drop, length-append}
+use Rattle.std.specs.List.{copy_within}
+use lib.Seq.{take_at, take-nil, slice, slice_empty, slice-cons, take-suc, drop-append-le, length-take-le, take-append-add, take-append_seam}
 use lib.Dec.{eqb}
 use borrow.Author.Tests.{eq-eqb, ne_eqb, le-leb}
 use Rattle.buffer.specs.Segments.{paste}
-use Rattle.lines.specs.Trace.{said_by, longest}
+use Rattle.lines.specs.Trace.{longest}
 use Rattle.rows.specs.Rows.{ended}
 use Rattle.lines.proofs.Doing.{said_long}
-use Rattle.lines.specs.Line.{left_by, print_of, room_for, LineSays}
+use Rattle.lines.specs.Line.{print_of, room_for, LineSays}
 use Rattle.answering.specs.declared.Left.{Left}
 use Rattle.answering.specs.Through.{line_prints, line_leaves, prints, leaves}
 use Rattle.answering.specs.Cut.{begun, Cut, Kept}
@@ -48,9 +49,6 @@ told_line out last new fill n skip line b h e k q =
 module _ {b line room : List ℕ} {r : ℕ} {x y : List ℕ} (h : room_for ≤ length room) (s : LineSays b line room r x y) where
   pub line_counted : r ≡ length (print_of b line)
   line_counted = s.counted ∙ rw (le-leb room_for (length room) h)
-
-  pub line_left : x ≡ left_by b (said_by line)
-  line_left = s.left ∙ rw (le-leb room_for (length room) h)
 
   pub line_written : y ≡ paste room 0 (print_of b line)
   line_written = s.written ∙ rw (le-leb room_for (length room) h)
@@ -104,27 +102,13 @@ cut_none = record { printed = λ later. refl; left = λ later. refl }
 pub cut_on : {buf : List ℕ} {end : ℕ} {p q r : Left} {b out x y x' y' : List ℕ} → Cut buf end p b out q x y → Cut buf end q x y r x' y' → Cut buf end p b out r x' y'
 cut_on s t = record { printed = λ later. t.printed later ∙ s.printed later; left = λ later. t.left later ∙ s.left later }
 
--- ---- Bytes moved to the front
-
-pub nothing_yet : (f : ℕ) (l : List ℕ) → take (f - f) l ≡ slice f f l
-nothing_yet f l = ap (λ (k : ℕ). take k l) (let e : f - f ≡ 0 = omega arith in e) ∙ sym (slice_empty f l)
-
--- those from f to i stand in front, and those from i on as they were; then the next one is moved
-module _ (old new : List ℕ) (f i : ℕ) (h : f ≤ i) (k : i < length new) (n : length new ≡ length old) (e : take (i - f) new ≡ slice f i old) (s : drop i new ≡ drop i old) where
-  byte_stays : get_or new i 0 ≡ get_or old i 0
-  byte_stays = ap (λ (j : ℕ). get_or new j 0) (let z : i ≡ i + 0 = omega arith in z) ∙ (sym (get_or-drop i new 0 0) ∙ (ap (λ (l : List ℕ). get_or l 0 0) s ∙ (get_or-drop i old 0 0 ∙ ap (λ (j : ℕ). get_or old j 0) (let z : i + 0 ≡ i = omega arith in z))))
-
-  pub moved_one : take (i + 1 - f) (set new (i - f) (get_or new i 0)) ≡ slice f (i + 1) old
-  moved_one =
-      let m : i + 1 - f ≡ suc (i - f) = omega arith in
-      ap (λ (j : ℕ). take j (set new (i - f) (get_or new i 0))) m
-      ∙ (take-suc-set new (i - f) (get_or new i 0) (omega arith)
-      ∙ (ap (λ (l : List ℕ). l ++ (get_or new i 0 ∷ [])) e ∙ (ap (λ (x : ℕ). slice f i old ++ (x ∷ [])) byte_stays ∙ sym (slice_more f i old h (omega arith)))))
-
-  pub moved_rest : drop (i + 1) (set new (i - f) (get_or new i 0)) ≡ drop (i + 1) old
-  moved_rest = drop-set-lt (i + 1) new (i - f) (get_or new i 0) (omega arith) ∙ (sym (drop-drop 1 i new) ∙ (ap (drop 1) s ∙ drop-drop 1 i old))
-
 -- ---- What is kept of a line that has begun
+
+-- its bytes, copied to the front
+pub moved : (buf : List ℕ) (f t : ℕ) → f ≤ t → t ≤ length buf → take (t - f) (copy_within buf f t 0) ≡ slice f t buf
+moved buf f t h k =
+    let part = take (t - f) (drop f buf) in
+    take_at part (drop (0 + (t - f)) buf) (t - f) (length-take-le (t - f) (drop f buf) (omega (arith, length-drop f buf))) ∙ part_slice f t buf
 
 -- the bytes of a line that is passed over do not count
 skip_prints : (later u v b : List ℕ) → prints true u later b ≡ prints true v later b

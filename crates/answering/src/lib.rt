@@ -9,9 +9,13 @@ ghost use Rattle.answering.specs.Known.{Known};
 ghost use Rattle.answering.specs.Through.{line_prints, line_leaves, prints, leaves};
 ghost use Rattle.answering.specs.Cut.{Cut, Kept};
 
+// A room for bytes: of the input, or of the output that waits.
+pub type Room = [u8; 65536];
+
 // What is kept from one read to the next: how many bytes of an unfinished line stand at the front
 // of the input, whether they are of a line that is too long and is passed over to its LF, whether
-// the buffer is known to be good, whether to read on, and whether all writes went well.
+// the buffer is known to be good, whether to read on, and whether all writes went well. What is
+// known of the buffer is a clause, `Known`, and no type: the buffer is lent anew with each read.
 #[derive(Clone, Copy)]
 pub struct Carry {
     pub held: usize,
@@ -49,26 +53,18 @@ fn one(state: &mut [u32], line: &[u8], out: &mut [u8], fill: usize, skip: bool, 
     ensures out_after { take result.«fill» out.new ≡ take fill out.old ++ line_prints skip line.now state.old }
     ensures state_after { state.new ≡ line_leaves skip line.now state.old }
 {
+    let room = &mut out[fill..];
     if skip {
-        let n = lines::wrong(&mut out[fill..]);
-        return Told {
-            fill: fill + n,
-            known,
-        };
+        let fill = fill + lines::wrong(room);
+        return Told { fill, known };
     }
     if known {
-        let n = lines::answer_in(state, line, &mut out[fill..]);
-        return Told {
-            fill: fill + n,
-            known: true,
-        };
+        let fill = fill + lines::answer_in(state, line, room);
+        return Told { fill, known };
     }
-    let n = lines::answer(state, line, &mut out[fill..]);
-    let good = inspect::is_good(state);
-    Told {
-        fill: fill + n,
-        known: good,
-    }
+    let fill = fill + lines::answer(state, line, room);
+    let known = inspect::is_good(state);
+    Told { fill, known }
 }
 
 // The next byte of the input: LF ends the line that has begun, and it is answered.
@@ -80,34 +76,25 @@ fn next(state: &mut [u32], buf: &[u8], end: usize, out: &mut [u8], p: Left) -> L
     ensures fill_bound { (result.«fill» ≤ p.«fill» + 22) × Known result.known state.new }
     ensures cut { Cut buf.now end p state.old out.old result state.new out.new }
 {
-    let start = p.start;
-    let place = p.place;
-    if buf[place] == b'\n' {
-        let told = one(state, &buf[start..place], out, p.fill, p.skip, p.known);
-        return Left {
-            start: place + 1,
-            place: place + 1,
-            skip: false,
-            fill: told.fill,
-            known: told.known,
-            sent: p.sent,
-        };
+    let place = p.place + 1;
+    if buf[p.place] != b'\n' {
+        return Left { place, ..p };
     }
+    let Told { fill, known } = one(state, &buf[p.start..p.place], out, p.fill, p.skip, p.known);
     Left {
-        start,
-        place: place + 1,
-        skip: p.skip,
-        fill: p.fill,
-        known: p.known,
+        start: place,
+        place,
+        skip: false,
+        fill,
+        known,
         sent: p.sent,
     }
 }
 
 // Cuts the input into lines and answers each, up to `end` or until there is no room for another
-// answer.
-pub fn cut(state: &mut [u32], buf: &[u8], end: usize, out: &mut [u8], p: Left) -> Left
+// answer. The loop is a `while`: its place stands in `left`, and a `for` would count it once more.
+pub fn cut(state: &mut [u32], buf: &[u8], end: usize, out: &mut Room, p: Left) -> Left
     requires known { Known p.known state.old }
-    requires out_len { length out.old ≡ 65536 }
     requires fill_value { p.«fill» ≡ 0 }
     requires start_bound { (p.«start» ≤ p.place) × ((p.place < end) × (end ≤ length buf.now)) }
     ensures start_bound_2 { (result.«start» ≤ result.place) × ((p.place < result.place) × (result.place ≤ end)) }
@@ -121,19 +108,6 @@ pub fn cut(state: &mut [u32], buf: &[u8], end: usize, out: &mut [u8], p: Left) -
     left
 }
 
-// Moves the bytes from start to end to the front of the input.
-fn shift(buf: &mut [u8], start: usize, end: usize)
-    requires start_le_end { start ≤ end }
-    requires end_in_bounds { end ≤ length buf.old }
-    ensures { take (end - start) buf.new ≡ slice start end buf.old }
-{
-    let mut i = start;
-    while i < end {
-        buf[i - start] = buf[i];
-        i += 1;
-    }
-}
-
 // What is kept of the line that has begun, at the front of the input: its bytes, or that it is too
 // long.
 pub fn keep(buf: &mut [u8], p: Left) -> Carry
@@ -141,50 +115,34 @@ pub fn keep(buf: &mut [u8], p: Left) -> Carry
     ensures held_bound { (result.held ≤ 256) × ((result.known ≡ p.known) × ((result.more ≡ p.sent) × (result.sent ≡ p.sent))) }
     ensures kept { Kept buf.old p result.skip result.held buf.new }
 {
-    let start = p.start;
-    let place = p.place;
-    let rest = place - start;
-    if p.skip {
-        return Carry {
-            held: 0,
-            skip: true,
-            known: p.known,
-            more: p.sent,
-            sent: p.sent,
-        };
-    }
-    if rest > 256 {
-        return Carry {
-            held: 0,
-            skip: true,
-            known: p.known,
-            more: p.sent,
-            sent: p.sent,
-        };
-    }
-    shift(buf, start, place);
-    Carry {
-        held: rest,
-        skip: false,
+    let rest = p.place - p.start;
+    let over = Carry {
+        held: 0,
+        skip: true,
         known: p.known,
         more: p.sent,
         sent: p.sent,
+    };
+    if p.skip || rest > 256 {
+        return over;
+    }
+    buf.copy_within(p.start..p.place, 0);
+    Carry {
+        held: rest,
+        skip: false,
+        ..over
     }
 }
 
 // The end of the input: a line that has begun is answered. How many bytes wait.
-pub fn finish(state: &mut [u32], buf: &[u8], out: &mut [u8], c: Carry) -> usize
+pub fn finish(state: &mut [u32], buf: &[u8], out: &mut Room, c: Carry) -> usize
     requires known { Known c.known state.old }
-    requires out_len { length out.old ≡ 65536 }
     requires held_in_bounds { c.held ≤ length buf.now }
     ensures upper_bound { (result ≤ 22) × (take result out.new ≡ prints c.skip (take c.held buf.now) [] state.old) }
     ensures state_after { state.new ≡ leaves c.skip (take c.held buf.now) [] state.old }
 {
-    let held = c.held;
-    let skip = c.skip;
-    if (held == 0) & !skip {
+    if (c.held == 0) & !c.skip {
         return 0;
     }
-    let told = one(state, &buf[..held], out, 0, skip, c.known);
-    told.fill
+    one(state, &buf[..c.held], out, 0, c.skip, c.known).fill
 }

@@ -10,7 +10,8 @@ use lib.Seq.{drop-drop, drop-set-lt, take-suc-set, length-take-le}
 use borrow.Author.Tests.{le-leb, lt-leb}
 use Rattle.at.specs.Lines.{starts, ends, ints, cr, comma}
 use Rattle.text.specs.Number.{got, none, num}
-use Rattle.at.specs.Order.{listed}
+use Rattle.std.specs.Prelude.{Some}
+use Rattle.at.specs.Order.{listed, some_listed}
 
 pub ints_zero : (l : List ℕ) (last : ℕ) (done : List ℕ) → ints 0 l last done ≡ []
 unfolding ints
@@ -39,10 +40,17 @@ module _ (k : ℕ) (l : List ℕ) (last : ℕ) (done : List ℕ) where
       unfolding ints
       ints_more p q = rw (e, le-leb last v h, p, q)
 
+-- a list that has intervals is not refused
+some_ints : (xs : List ℕ) → 1 ≤ length xs → some_listed xs ≡ Some (listed xs)
+some_ints [] h = absurd (omega arith)
+some_ints (x ∷ xs) h = refl
+
 -- the places from n on are unused
 module _ (xs : List ℕ) (n : ℕ) (len : length xs ≡ 10) (z : drop n xs ≡ replicate (10 - n) 0) where
-  pub whole : n ≤ 10 → listed (take n xs) ≡ record { count = n; list = xs }
-  whole h = rw (length-take-le n xs (omega arith), ← z, take-append-drop n xs)
+  pub whole : 1 ≤ n → n ≤ 10 → some_listed (take n xs) ≡ Some (record { count = n; list = xs })
+  whole k h =
+      let e = length-take-le n xs (omega arith) in
+      some_ints (take n xs) (omega arith) ∙ ap Some (rw (e, ← z, take-append-drop n xs))
 
   module _ (v : ℕ) (h : n < 10) where
     pub take_more : take (n + 1) (set xs n v) ≡ take n xs ++ (v ∷ [])

@@ -1,48 +1,50 @@
 -- A word at a place of a line, and a flag, step by step, and what they say of it. Assumes nothing.
 use Prim.Native.Nat.{ℕ, ◌+◌, ◌-◌, ◌≤◌, ◌<◌}
-use mathlib.Core.Path.{◌≡◌, refl, ap}
-use mathlib.Core.Bool.{Bool, true, false}
+use mathlib.Core.Path.{◌≡◌, refl, sym, ap, ◌∙◌}
+use mathlib.Core.Bool.{Bool, true, false, cond, ◌&&◌}
 use mathlib.Core.List.{List, [], ◌∷◌, ◌++◌}
-use native.Mathlib.Numerals.{add-one}
 use native.Mathlib.Omega.{arith}
-use lib.Dec.{eqb}
-use lib.ListN.{length, get_or, drop, drop_of_length-le, length-drop, length-append}
+use lib.Dec.{eqb, leb-suc-suc, leb-suc-zero}
+use Rattle.std.proofs.lemmas.Bool.Decides.{nat_tests}
+use lib.ListN.{length, get_or, take, drop, drop_of_length-le, length-drop, length-append}
 use lib.Seq.{drop-cons}
-use borrow.Author.Tests.{le-leb, lt-leb, eq-eqb, ne_eqb, eqb-true}
+use lib.Pointwise.{pointwise}
+use borrow.Author.Tests.{eq-eqb, ne_eqb, eqb-true}
 use Rattle.text.proofs.Choice.{cond_by, absurd_bool}
 use Rattle.at.specs.Lines.{starts, ends, flag_of}
 
-module _ (w l : List ℕ) (j i : ℕ) where
-  pub starts_all : length w ≤ j → starts (drop j w) (drop i l) ≡ true
-  unfolding starts
-  starts_all h = rw (drop_of_length-le w h)
+-- two tests of bytes, in either order
+eqb_sym : (x y : ℕ) → eqb x y ≡ eqb y x
+eqb_sym x y = grind (arith, nat_tests)
 
-  module _ (h : j < length w) where
-    pub starts_short : length l ≤ i → starts (drop j w) (drop i l) ≡ false
-    unfolding starts
-    starts_short p = rw (drop-cons w j 0 h, drop_of_length-le l p)
+-- a word is what a slice begins with, or all of it, by the tests of std
+starts_is : (w l : List ℕ) → pointwise eqb w (take (length w) l) ≡ starts w l
+unfolding starts
+starts_is [] l = refl
+starts_is (x ∷ w) [] = refl
+starts_is (x ∷ w) (y ∷ l) = rw (starts_is w l, eqb_sym x y) (go (eqb y x) (starts w l))
+  where
+    go : (b p : Bool) → (b && p) ≡ cond b p false
+    go true p = refl
+    go false p = refl
 
-    pub starts_other : i < length l → (get_or l i 0 ≡ get_or w j 0 → ⊥) → starts (drop j w) (drop i l) ≡ false
-    unfolding starts
-    starts_other p n = rw (drop-cons w j 0 h, drop-cons l i 0 p, ne_eqb _ _ n)
+ends_is : (w l : List ℕ) → pointwise eqb l w ≡ ends w l
+unfolding ends starts
+ends_is [] [] = refl
+ends_is [] (y ∷ l) = sym (leb-suc-zero (length l))
+ends_is (x ∷ w) [] = refl
+ends_is (x ∷ w) (y ∷ l) = rw (leb-suc-suc (length l) (length w)) (go (eqb y x) _ _ (ends_is w l))
+  where
+    go : (b : Bool) {p : Bool} (s t : Bool) → p ≡ cond s t false → (b && p) ≡ cond (cond b s false) t false
+    go true s t e = e
+    go false s t e = refl
 
-    pub starts_go : i < length l → get_or l i 0 ≡ get_or w j 0 → starts (drop j w) (drop i l) ≡ starts (drop (j + 1) w) (drop (i + 1) l)
-    unfolding starts
-    starts_go p e = rw (drop-cons w j 0 h, drop-cons l i 0 p, eq-eqb _ _ e, add-one, add-one)
+module _ (w l r : List ℕ) (b : Bool) (e : r ≡ l) where
+  pub starts_by : b ≡ pointwise eqb w (take (length w) r) → b ≡ starts w l
+  starts_by h = h ∙ rw e (starts_is w l)
 
-module _ (w l : List ℕ) (i : ℕ) where
-  pub ends_not : starts w (drop i l) ≡ false → ends w (drop i l) ≡ false
-  unfolding ends
-  ends_not e = rw e
-
-  module _ (e : starts w (drop i l) ≡ true) where
-    pub ends_here : length l - i ≤ length w → ends w (drop i l) ≡ true
-    unfolding ends
-    ends_here h = rw (e, length-drop, le-leb _ _ h)
-
-    pub ends_more : length w < length l - i → ends w (drop i l) ≡ false
-    unfolding ends
-    ends_more h = rw (e, length-drop, lt-leb _ _ h)
+  pub ends_by : b ≡ pointwise eqb r w → b ≡ ends w l
+  ends_by h = h ∙ rw e (ends_is w l)
 
 module _ (l : List ℕ) (i : ℕ) where
   pub flag_end : length l ≤ i → flag_of (drop i l) ≡ 2

@@ -1,7 +1,7 @@
 -- AT lines. "Upper case, at most 96 bytes, closed by one CR (13) and nothing after it: `AT+NFM=a`, `AT+NFM=a,s`, `AT+NFM=?`, `AT+NFMCI=`
 -- and 1 to 10 intervals with commas. Flags are 0 or 1; decimals have no leading zero"; an interval is 1 to 65,535 and none is below the
 -- one before. Any other line is bad. That no line read is longer than 96 bytes is a law, `accepted` in proofs/RoundTrip. Assumes nothing.
-use Rattle.std.specs.Prelude.{ℕ, suc, zero, ◌+◌, List, [], ◌∷◌, ◌++◌, Bool, true, false, cond, drop, length, leb, ltb, eqb}
+use Rattle.std.specs.Prelude.{ℕ, suc, zero, ◌+◌, List, [], ◌∷◌, ◌++◌, Bool, true, false, cond, drop, length, leb, ltb, eqb, Option, Some, None}
 use Rattle.text.specs.Number.{Part, got, none, num}
 use Rattle.rules.specs.Calls.{Line, query, nfm, nfm_start, intervals, bad}
 use Rattle.at.specs.declared.Name.{Name}
@@ -82,17 +82,15 @@ read_line l = cond (starts at_nfm l) (flags (drop 7 l)) (cond (starts at_nfmci l
 abbrev pub word : Name → List ℕ
 word N.Flags = at_nfm
 word N.Intervals = at_nfmci
-word N.Other = []
 
 -- the name that a line begins with
-unfoldable pub name_of : List ℕ → Name
-name_of l = cond (starts at_nfm l) N.Flags (cond (starts at_nfmci l) N.Intervals N.Other)
+unfoldable pub name_of : List ℕ → Option Name
+name_of l = cond (starts at_nfm l) (Some N.Flags) (cond (starts at_nfmci l) (Some N.Intervals) None)
 
 -- what the arguments say, of the command with that name
 abbrev pub arguments_of : Name → List ℕ → Line
 arguments_of N.Flags l = flags l
 arguments_of N.Intervals l = ints_line (ints 10 l 1 [])
-arguments_of N.Other l = bad
 
 -- what a reader has before it: its line from its place on
 abbrev pub ahead : Reader → List ℕ

@@ -3,192 +3,132 @@
 // is done by functions on line and place. Assumes nothing.
 #![tactic(auto)]
 
-ghost use Rattle.std.specs.Prelude.{◌≡◌, ◌+◌, ◌<◌, ◌^◌, [], length, drop};
-ghost use Rattle.at.specs.Order.{listed, order_of, plain_order};
-ghost use Rattle.at.specs.Lines.{starts as startsOf, ends as endsOf, flag_of};
+ghost use Rattle.std.specs.Prelude.{◌≡◌, ◌+◌, ◌≤◌, ◌<◌, ◌^◌, [], length, drop, MatchOption, Some};
+ghost use Rattle.at.specs.Order.{some_listed, order_of};
+ghost use Rattle.at.specs.Lines.{starts as starts_with, ends as ends_with, flag_of};
 ghost use Rattle.at.specs.Lines.{flags as flags_of, ints, read_line};
 ghost use Rattle.at.specs.Lines.{word, name_of, arguments_of, ahead, behind};
 
 use text::{Num, decimal};
 
-// The order of a line; `Bad` is none.
+// The order of a line.
 #[derive(Clone, Copy)]
-pub enum Kind {
+pub enum Order {
     Query,
     Nfm(u32),
     NfmStart(u32, u32),
-    Intervals,
-    Bad,
+    Intervals(Listed),
 }
 
-// The name that a line begins with; `Other` is none.
+// Intervals: the first `count` of ten places, at least one. The places after them are 0. They are
+// no Vec: there is no heap.
 #[derive(Clone, Copy)]
-enum Name {
-    Flags,
-    Intervals,
-    Other,
-}
-
-// Intervals: the first `count` of ten places.
-#[derive(Clone, Copy)]
-struct Listed {
-    count: usize,
-    list: [u32; 10],
-}
-
-// An order with its intervals, of which only `Intervals` has any.
-#[derive(Clone, Copy)]
-pub struct Order {
-    pub kind: Kind,
+pub struct Listed {
     pub count: usize,
     pub list: [u32; 10],
 }
 
-// Whether the line goes on with `word` at a place.
-fn starts(line: &[u8], at: usize, word: &[u8]) -> bool
-    ensures { result ≡ startsOf word.now (drop at line.now) }
+// The name that a line begins with.
+#[derive(Clone, Copy)]
+enum Name {
+    Flags,
+    Intervals,
+}
+
+// The line from a place on: nothing where it has ended.
+fn rest(line: &[u8], at: usize) -> &[u8]
+    ensures { result.now ≡ drop at line.now }
 {
-    let mut i = at;
-    let mut j = 0;
-    while j < word.len() {
-        if line.len() <= i {
-            return false;
-        }
-        if line[i] != word[j] {
-            return false;
-        }
-        i += 1;
-        j += 1;
-    }
-    true
+    line.get(at..).unwrap_or(&[])
+}
+
+// Whether the line goes on with `word` at a place.
+#[tactic(auto, using(crate::proofs::LineLaws::starts_by))]
+fn starts(line: &[u8], at: usize, word: &[u8]) -> bool
+    ensures { result ≡ starts_with word.now (drop at line.now) }
+{
+    rest(line, at).starts_with(word)
 }
 
 // Whether `word` is all that the line has from a place on.
+#[tactic(auto, using(crate::proofs::LineLaws::ends_by))]
 fn ends(line: &[u8], at: usize, word: &[u8]) -> bool
-    ensures { result ≡ endsOf word.now (drop at line.now) }
+    ensures { result ≡ ends_with word.now (drop at line.now) }
 {
-    if starts(line, at, word) {
-        if line.len() <= at {
-            return true;
-        }
-        if line.len() - at <= word.len() {
-            return true;
-        }
-        return false;
-    }
-    false
+    rest(line, at) == word
 }
 
-// The flag at a place, or 2.
-fn flag(line: &[u8], at: usize) -> u32
-    ensures { result ≡ flag_of (drop at line.now) }
+// The flag at a place.
+#[tactic(auto, using(crate::proofs::LineLaws::flag_end, crate::proofs::LineLaws::flag_0, crate::proofs::LineLaws::flag_1, crate::proofs::LineLaws::flag_2))]
+fn flag(line: &[u8], at: usize) -> Option<u32>
+    ensures { MatchOption result (flag_of (drop at line.now) ≡ 2) (λ f. (f ≡ flag_of (drop at line.now)) × (f ≤ 1)) }
 {
-    if line.len() <= at {
-        return 2;
-    }
-    let b = line[at];
-    if b == 48 {
-        return 0;
-    }
-    if b == 49 {
-        return 1;
-    }
-    2
-}
-
-// An order without intervals.
-fn plain(kind: Kind) -> Order
-    ensures { result ≡ plain_order kind }
-{
-    Order {
-        kind,
-        count: 0,
-        list: [0u32; 10],
+    match line.get(at)? {
+        b'0' => Some(0),
+        b'1' => Some(1),
+        _ => None,
     }
 }
 
 // What follows AT+NFM=.
-fn flags(line: &[u8], at: usize) -> Order
+fn flags(line: &[u8], at: usize) -> Option<Order>
     ensures { result ≡ order_of (flags_of (drop at line.now)) }
 {
     if ends(line, at, b"?\r") {
-        return plain(Kind::Query);
+        return Some(Order::Query);
     }
-    let a = flag(line, at);
-    if 1 < a {
-        return plain(Kind::Bad);
-    }
+    let a = flag(line, at)?;
     if ends(line, at + 1, b"\r") {
-        return plain(Kind::Nfm(a));
+        return Some(Order::Nfm(a));
     }
-    if starts(line, at + 1, b",") {
-        let s = flag(line, at + 2);
-        if 1 < s {
-            return plain(Kind::Bad);
-        }
-        if ends(line, at + 3, b"\r") {
-            return plain(Kind::NfmStart(a, s));
-        }
-        return plain(Kind::Bad);
+    if !starts(line, at + 1, b",") {
+        return None;
     }
-    plain(Kind::Bad)
-}
-
-// No intervals: a list that is refused.
-fn none() -> Listed
-    ensures { result ≡ listed [] }
-{
-    Listed {
-        count: 0,
-        list: [0u32; 10],
+    let s = flag(line, at + 2)?;
+    if ends(line, at + 3, b"\r") {
+        Some(Order::NfmStart(a, s))
+    } else {
+        None
     }
 }
 
-// 1 to 10 intervals and the end of the line; a count of 0 where that is refused.
-fn intervals(line: &[u8], at: usize) -> Listed
-    ensures { result ≡ listed (ints 10 (drop at line.now) 1 []) }
+// 1 to 10 intervals and the end of the line.
+fn intervals(line: &[u8], at: usize) -> Option<Listed>
+    ensures { result ≡ some_listed (ints 10 (drop at line.now) 1 []) }
 {
     let mut list = [0u32; 10];
-    let mut n: usize = 0;
-    let mut last: u64 = 1;
-    let mut i = at;
-    while n < 10 {
-        match decimal(line, i, 65535) {
-            Num::Nothing => {
-                return none();
-            }
-            Num::At(v, next) => {
-                if v < last {
-                    return none();
-                }
-                list[n] = v as u32;
-                n += 1;
-                if ends(line, next, b"\r") {
-                    return Listed { count: n, list };
-                }
-                if starts(line, next, b",") {
-                    i = next + 1;
-                    last = v;
-                } else {
-                    return none();
-                }
-            }
+    let mut last = 1;
+    let mut from = at;
+    for n in 0..list.len() {
+        let Num { value, next } = decimal(line, from, 65535)?;
+        if value < last {
+            return None;
         }
+        list[n] = value as u32;
+        if ends(line, next, b"\r") {
+            return Some(Listed { count: n + 1, list });
+        }
+        if !starts(line, next, b",") {
+            return None;
+        }
+        last = value;
+        from = next + 1;
     }
-    none()
+    None
 }
 
 // Which name stands at a place.
-fn name_at(line: &[u8], at: usize) -> Name
+#[tactic(auto, unfolding(crate::specs::Lines::name_of))]
+fn name_at(line: &[u8], at: usize) -> Option<Name>
     ensures { result ≡ name_of (drop at line.now) }
 {
     if starts(line, at, b"AT+NFM=") {
-        return Name::Flags;
+        Some(Name::Flags)
+    } else if starts(line, at, b"AT+NFMCI=") {
+        Some(Name::Intervals)
+    } else {
+        None
     }
-    if starts(line, at, b"AT+NFMCI=") {
-        return Name::Intervals;
-    }
-    Name::Other
 }
 
 // The place behind a name that stands at a place.
@@ -197,42 +137,18 @@ fn place_past(at: usize, name: Name) -> usize
     ensures { result ≡ at + length (word name) }
 {
     match name {
-        Name::Flags => {
-            return at + 7;
-        }
-        Name::Intervals => {
-            return at + 9;
-        }
-        Name::Other => {
-            return at;
-        }
+        Name::Flags => at + 7,
+        Name::Intervals => at + 9,
     }
 }
 
 // What the arguments from a place on say, of the command with that name.
-fn arguments_at(line: &[u8], at: usize, name: Name) -> Order
+fn arguments_at(line: &[u8], at: usize, name: Name) -> Option<Order>
     ensures { result ≡ order_of (arguments_of name (drop at line.now)) }
 {
     match name {
-        Name::Flags => {
-            return flags(line, at);
-        }
-        Name::Intervals => {
-            let got = intervals(line, at);
-            let count = got.count;
-            let list = got.list;
-            if count == 0 {
-                return plain(Kind::Bad);
-            }
-            return Order {
-                kind: Kind::Intervals,
-                count,
-                list,
-            };
-        }
-        Name::Other => {
-            return plain(Kind::Bad);
-        }
+        Name::Flags => flags(line, at),
+        Name::Intervals => Some(Order::Intervals(intervals(line, at)?)),
     }
 }
 
@@ -252,15 +168,16 @@ impl<'a> Reader<'a> {
     }
 
     // The name that stands at the reader's place.
-    fn name(self) -> Name
+    fn name(self) -> Option<Name>
         ensures { result ≡ name_of (ahead self.entry) }
     {
         name_at(self.line, self.at)
     }
 
     // The reader behind the name that it has read at its place.
+    #[tactic(auto, using(crate::proofs::ReadLaws::behind_fits))]
     fn past(self, name: Name) -> Reader<'a>
-        requires { name ≡ name_of (ahead self) }
+        requires { name_of (ahead self) ≡ Some name }
         ensures { result ≡ behind name self.entry }
     {
         let at = place_past(self.at, name);
@@ -271,7 +188,7 @@ impl<'a> Reader<'a> {
     }
 
     // What the arguments from the reader's place on say, of the command with that name.
-    fn arguments(self, name: Name) -> Order
+    fn arguments(self, name: Name) -> Option<Order>
         ensures { result ≡ order_of (arguments_of name (ahead self.entry)) }
     {
         arguments_at(self.line, self.at, name)
@@ -279,10 +196,11 @@ impl<'a> Reader<'a> {
 }
 
 // What an AT line says, its CR included. A line is at most 96 bytes, and no longer one is taken.
-pub fn read(line: &[u8]) -> Order
+#[tactic(auto, using(crate::proofs::ReadLaws::read_none, crate::proofs::ReadLaws::read_named))]
+pub fn read(line: &[u8]) -> Option<Order>
     ensures { result ≡ order_of (read_line line.now) }
 {
     let reader = Reader::new(line);
-    let name = reader.name();
+    let name = reader.name()?;
     reader.past(name).arguments(name)
 }

@@ -60,39 +60,33 @@ pub base_range : (b : List ℕ) → good b ≡ true → (n : ℕ)
     → (1 ≤ interval (facts_of b).mode.intervals (one_more n)) × (interval (facts_of b).mode.intervals (one_more n) ≤ 65535)
 base_range b g n = interval_range (facts_of b) (good_sane b g) (one_more n) (omega arith)
 
--- where the interval of one failure more than n stands, of m intervals
-module _ (b : List ℕ) (g : good b ≡ true) (n m : ℕ) (e : m ≡ get_or b COUNT 0) where
-  pub count_range : (1 ≤ m) × (m ≤ 10)
+-- where the interval of one failure more than n stands, the last being `last`
+module _ (b : List ℕ) (g : good b ≡ true) where
+  pub count_range : (1 ≤ get_or b COUNT 0) × (get_or b COUNT 0 ≤ 10)
   unfolding facts_of
   count_range = let q = interval_count b (good_shape b g) in (omega (arith, (good_sane b g).mode.some), omega (arith, (good_sane b g).mode.few))
 
-  pub interval_next : n < m → get_or b (INTERVALS + n) 0 ≡ interval (facts_of b).mode.intervals (one_more n)
+  pub interval_next : (n : ℕ) {m : ℕ} → m ≡ min n (get_or b COUNT 0 - 1) → get_or b (INTERVALS + m) 0 ≡ interval (facts_of b).mode.intervals (one_more n)
   unfolding facts_of
-  interval_next h =
+  interval_next n {m} e =
       let l : List ℕ = part b INTERVALS (get_or b COUNT 0) in
-      let i : min (min (n + 1) 255) (length l) - 1 ≡ n = omega (arith, interval_count b (good_shape b g), count_range.1) in
-      rw i (sym (part_at b INTERVALS (get_or b COUNT 0) n (omega arith)))
-
-  pub interval_last : m ≤ n → get_or b (INTERVALS + (m - 1)) 0 ≡ interval (facts_of b).mode.intervals (one_more n)
-  unfolding facts_of
-  interval_last h =
-      let l : List ℕ = part b INTERVALS (get_or b COUNT 0) in
-      let i : min (min (n + 1) 255) (length l) - 1 ≡ m - 1 = omega (arith, interval_count b (good_shape b g), count_range.1) in
-      rw i (sym (part_at b INTERVALS (get_or b COUNT 0) (m - 1) (omega (arith, count_range.0))))
+      let i : min (min (n + 1) 255) (length l) - 1 ≡ m = omega (arith, e, interval_count b (good_shape b g), count_range.0, count_range.1) in
+      rw i (sym (part_at b INTERVALS (get_or b COUNT 0) m (omega (arith, e, count_range.0))))
 
 -- what it is drawn from fits
-pub failures_low : (b : List ℕ) → good b ≡ true → (i : ℕ) → i < 4 → {n : ℕ} → n ≡ get_or b (FAILURES + i) 0 → n ≤ 255
+pub failures_low : (b : List ℕ) → good b ≡ true → (i : ℕ) → i < 4 → get_or b (FAILURES + i) 0 ≤ 255
 unfolding facts_of
-failures_low b g i h u = rw u (byte_low b FAILURES 4 (good_sane b g).services.failures i h)
+failures_low b g i h = (byte_low b FAILURES 4 (good_sane b g).services.failures i h)
 
 -- the wait, by the places
-pub waits : (b : List ℕ) (i : ℕ) → i < 4 → {r p x n m : ℕ} → n ≡ get_or b (FAILURES + i) 0 → m ≡ get_or b QUOTIENT 0 * 2 ^ 32 + get_or b REMAINDER 0
-    → r ≡ p + x % p → p ≡ interval (facts_of b).mode.intervals (one_more n) → x ≡ drawn m (n + 1) → r ≡ wait (facts_of b) i
+pub waits : (b : List ℕ) (i : ℕ) → i < 4 → {r p x m : ℕ} → m ≡ get_or b QUOTIENT 0 * 2 ^ 32 + get_or b REMAINDER 0
+    → r ≡ p + x % p → p ≡ interval (facts_of b).mode.intervals (one_more (get_or b (FAILURES + i) 0)) → x ≡ drawn m (get_or b (FAILURES + i) 0 + 1) → r ≡ wait (facts_of b) i
 unfolding wait wait_for facts_of
-waits b i h {n = n} u v e k d =
+waits b i h v e k d =
+    let n = get_or b (FAILURES + i) 0 in
     let l = (facts_of b).mode.intervals in
     let capped : min (n + 1) 15 ≡ min (one_more n) 15 = omega arith in
-    let same : n ≡ get_or (facts_of b).services.failures i 0 = u ∙ sym (part_at b FAILURES 4 i h) in
+    let same : n ≡ get_or (facts_of b).services.failures i 0 = sym (part_at b FAILURES 4 i h) in
     e ∙ (λ j. k j + d j % k j) ∙ (λ j. interval l (one_more n) + mixed (v j * 16 + capped j) % interval l (one_more n))
     ∙ ap (λ (n : ℕ). interval l (one_more n) + drawn (facts_of b).opening.imsi (one_more n) % interval l (one_more n)) same
 

@@ -2,16 +2,18 @@
 // and how long it waits.
 #![tactic(auto)]
 
-ghost use Rattle.std.specs.Prelude.{◌≡◌, true, ◌+◌, ◌%◌, ◌<◌, ◌≤◌, length};
+ghost use Rattle.std.specs.Prelude.{◌≡◌, true, ◌+◌, ◌%◌, ◌<◌, ◌≤◌};
 ghost use Rattle.rules.specs.Tables.{one_more, interval};
 ghost use Rattle.rules.specs.Rules.{wait, failed};
-ghost use Rattle.buffer.specs.Places.{SIZE};
 ghost use Rattle.buffer.specs.Layout.{facts_of};
 ghost use Rattle.buffer.specs.Good.{good};
+ghost use Rattle.services.specs.Services.{index_of};
 ghost use Rattle.backoff.specs.Backoffs.{clear, later, loaded, stored, backed};
 
-use buffer::fields;
+use buffer::places::Buffer;
+use buffer::{fields, places as at};
 use rules::Answer;
+use services::Service;
 
 // The back-off of one service: its failures in a row, and the time at which its wait ends; 0 is
 // none.
@@ -33,14 +35,10 @@ impl Backoff {
     fn failed(self, end: u32) -> Backoff
         ensures { result ≡ later self end }
     {
-        let failures = self.failures;
-        if failures < 255 {
-            return Backoff {
-                failures: failures + 1,
-                end,
-            };
+        Backoff {
+            failures: self.failures.saturating_add(1).min(255),
+            end,
         }
-        Backoff { failures: 255, end }
     }
 
     // No failure, and no end.
@@ -54,26 +52,24 @@ impl Backoff {
     }
 }
 
-// The back-off of service i.
-pub fn load(s: &[u32], i: usize) -> Backoff
-    requires s_len { length s.now ≡ SIZE }
-    requires i_bound { i < 4 }
-    ensures { result ≡ loaded s.now i }
+// The back-off of a service.
+pub fn load(s: &Buffer, service: Service) -> Backoff
+    ensures { result ≡ loaded s.now (index_of service) }
 {
+    let i = service.index();
     Backoff {
-        failures: fields::failures(s, i),
-        end: fields::end(s, i),
+        failures: s[at::FAILURES + i],
+        end: s[at::ENDS + i],
     }
 }
 
-// Stores the back-off of service i.
-pub fn store(s: &mut [u32], i: usize, b: Backoff)
-    requires s_len { length s.old ≡ SIZE }
-    requires i_bound { i < 4 }
-    ensures { s.new ≡ stored s.old i b }
+// Stores the back-off of a service.
+pub fn store(s: &mut Buffer, service: Service, b: Backoff)
+    ensures { s.new ≡ stored s.old (index_of service) b }
 {
-    fields::set_failures(s, i, b.failures);
-    fields::set_end(s, i, b.end);
+    let i = service.index();
+    s[at::FAILURES + i] = b.failures;
+    s[at::ENDS + i] = b.end;
 }
 
 // The wait of a base interval: it and the remainder by it of what the card draws.
@@ -81,40 +77,32 @@ fn spread_out(x: u64, base: u32) -> u32
     requires { (1 ≤ base) × (base ≤ 65535) }
     ensures { result ≡ base + x % base }
 {
-    base + (x % (base as u64)) as u32
+    base + (x % u64::from(base)) as u32
 }
 
 // The base interval of one failure more than n: the last where there are fewer.
-fn base(s: &[u32], n: u32) -> u32
-    requires s_len { length s.now ≡ SIZE }
-    requires s_value { good s.now ≡ true }
+fn base(s: &Buffer, n: u32) -> u32
+    requires { good s.now ≡ true }
     ensures { result ≡ interval (facts_of s.now).mode.intervals (one_more n) }
 {
-    let m = fields::count(s);
-    if n < m {
-        return fields::interval(s, n as usize);
-    }
-    fields::interval(s, (m - 1) as usize)
+    let last = s[at::COUNT] - 1;
+    s[at::INTERVALS + n.min(last) as usize]
 }
 
-// How long service i waits after one failure more. A card draws the same from 15 failures on, so
+// How long a service waits after one failure more. A card draws the same from 15 failures on, so
 // the count for that need not stop at 255.
-pub fn wait(s: &[u32], i: usize) -> u32
-    requires s_len { length s.now ≡ SIZE }
-    requires s_value { good s.now ≡ true }
-    requires i_bound { i < 4 }
-    ensures { result ≡ wait (facts_of s.now) i }
+pub fn wait(s: &Buffer, service: Service) -> u32
+    requires { good s.now ≡ true }
+    ensures { result ≡ wait (facts_of s.now) (index_of service) }
 {
-    let n = fields::failures(s, i);
+    let n = s[at::FAILURES + service.index()];
     spread_out(mixing::draw(fields::imsi(s), n + 1), base(s, n))
 }
 
-// The answer to a failure of service i whose action is n; with NFM 0 it is 23 in place of 20.
-pub fn failing(s: &[u32], i: usize, n: u32) -> Answer
-    requires s_len { length s.now ≡ SIZE }
-    requires s_value { good s.now ≡ true }
-    requires i_bound { i < 4 }
-    ensures { result ≡ failed (facts_of s.now) i n }
+// The answer to a failure of a service whose action is n; with NFM 0 it is 23 in place of 20.
+pub fn failing(s: &Buffer, service: Service, n: u32) -> Answer
+    requires { good s.now ≡ true }
+    ensures { result ≡ failed (facts_of s.now) (index_of service) n }
 {
     if n != 20 {
         return Answer {
@@ -122,7 +110,7 @@ pub fn failing(s: &[u32], i: usize, n: u32) -> Answer
             second: 0,
         };
     }
-    if fields::nfm(s) != 1 {
+    if s[at::NFM] != 1 {
         return Answer {
             number: 23,
             second: 0,
@@ -130,20 +118,16 @@ pub fn failing(s: &[u32], i: usize, n: u32) -> Answer
     }
     Answer {
         number: 20,
-        second: wait(s, i),
+        second: wait(s, service),
     }
 }
 
-// Service i backs off for w seconds from t where the answer's number n is 20.
-pub fn back(s: &mut [u32], t: u32, i: usize, n: u32, w: u32)
-    requires s_len { length s.old ≡ SIZE }
-    requires i_bound { i < 4 }
-    requires w_bound { n ≡ 20 → t + w < 4294967296 }
-    ensures { s.new ≡ backed s.old t i n w }
+// A service backs off for w seconds from t where the answer's number n is 20.
+pub fn back(s: &mut Buffer, t: u32, service: Service, n: u32, w: u32)
+    requires { n ≡ 20 → t + w < 4294967296 }
+    ensures { s.new ≡ backed s.old t (index_of service) n w }
 {
-    if n != 20 {
-        return;
+    if n == 20 {
+        store(s, service, load(s, service).failed(t + w));
     }
-    let b = load(s, i).failed(t + w);
-    store(s, i, b);
 }

@@ -6,12 +6,14 @@ ghost use Rattle.rules.specs.Tables.{ascending};
 ghost use Rattle.buffer.specs.Layout.{row};
 ghost use Rattle.buffer.specs.Lists.{Listed, permitted};
 ghost use Rattle.permits.specs.Permits.{full_for};
+ghost use Rattle.refusals.specs.Refusals.{above_zero};
 
 use crate::places as at;
+use crate::places::Buffer;
 
 // A permit at t on list k: the list's places are lent to `append`, and its new length is stored. No
 // other place changes.
-pub fn permit_on(s: &mut [u32], k: usize, t: u32)
+pub fn permit_on(s: &mut Buffer, k: usize, t: u32)
     requires { Listed s.old k }
     ensures { s.new ≡ permitted s.old k t }
 {
@@ -23,13 +25,13 @@ pub fn permit_on(s: &mut [u32], k: usize, t: u32)
     s[j] = m;
 }
 
-// The seconds until fewer than `most` of list k, which rises to t, are in the hour; 0 where fewer
-// are.
-pub fn list_full_for(s: &[u32], k: usize, t: u32, most: u32) -> u32
+// The seconds until fewer than `most` of list k, which rises to t, are in the hour; none where
+// fewer are.
+pub fn list_full_for(s: &Buffer, k: usize, t: u32, most: u32) -> Option<u32>
     requires listed { Listed s.now k }
     requires k_value { ascending 0 t (row s.now k) ≡ true }
     requires most_nonzero { 0 < most }
-    ensures { result ≡ full_for t most (row s.now k) }
+    ensures { result ≡ above_zero (full_for t most (row s.now k)) }
 {
     let a = at::LISTS + at::ROOM * k;
     let e = a + at::ROOM;

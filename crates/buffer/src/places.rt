@@ -1,7 +1,13 @@
-// The places of document 01's table, by name: the same names and numbers as in specs/Places.antt. No other file has a place's number.
+// The places of document 01's table, by name: the same names and numbers as in specs/Places.antt.
+// No other file has a place's number.
 
 // 1,331 numbers
 pub const SIZE: usize = 1331;
+
+// A state of that length. Whether it keeps the lines of the table is for `inspect` to say, and stays
+// a clause, `good`, of what needs it: the parts of a call leave buffers between that are not good.
+pub type Buffer = [u32; SIZE];
+
 // four bytes for each
 pub const BYTES: usize = 5324;
 

@@ -1,33 +1,18 @@
 -- The letters of timed lines. Assumes nothing.
 use Prim.Native.Nat.{ℕ, ◌≤◌}
-use mathlib.Core.Path.{◌≡◌, ap, ◌∙◌}
+use mathlib.Core.Path.{◌≡◌}
 use mathlib.Core.Bool.{Bool, true, false, cond}
-use mathlib.Core.List.{List}
 use mathlib.Core.Logic.{◌≢◌}
 use lib.Dec.{eqb}
 use native.Mathlib.Omega.{arith}
 use borrow.Author.Tests.{ne_eqb}
-use Rattle.rules.specs.declared.Event.{Event}
-use Rattle.rules.specs.declared.Event.TheVariants.{Tick as tick}
-use Rattle.calls.specs.Letters.{letter_q, letter_g, letter_s, letter_j, letter_d, letter_t, how_many, event_of}
+use Rattle.calls.specs.Letters.{letter_q, letter_g, letter_s, letter_j, letter_d, letter_t, how_many}
 
--- how many numbers, and what happens, of a letter that is known
-module _ (x y : ℕ) (e : x ≡ y) where
-  pub many_of : (k : ℕ) → how_many y ≡ k → how_many x ≡ k
-  many_of k h = ap how_many e ∙ h
-
-  pub event_from : (n : List ℕ) (v : Event) → event_of y n ≡ v → event_of x n ≡ v
-  event_from n v h = ap (λ (z : ℕ). event_of z n) e ∙ h
-
--- any other byte begins no timed line, and any other letter is the clock's
+-- any other byte begins no timed line
 module _ (x : ℕ) (a : x ≢ letter_q) (b : x ≢ letter_g) (c : x ≢ letter_s) (d : x ≢ letter_j) (e : x ≢ letter_d) where
   pub many_none : x ≢ letter_t → how_many x ≡ 0
   unfolding how_many
   many_none f = rw (ne_eqb x letter_q a, ne_eqb x letter_g b, ne_eqb x letter_s c, ne_eqb x letter_j d, ne_eqb x letter_d e, ne_eqb x letter_t f)
-
-  pub event_tick : (n : List ℕ) → event_of x n ≡ tick
-  unfolding event_of
-  event_tick n = rw (ne_eqb x letter_q a, ne_eqb x letter_g b, ne_eqb x letter_s c, ne_eqb x letter_j d, ne_eqb x letter_d e)
 
 -- no letter has more than five
 pub many_few : (x : ℕ) → how_many x ≤ 5

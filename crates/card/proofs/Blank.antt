@@ -1,28 +1,19 @@
--- The test of a file's unused bytes, one byte at a time, and what `&p[n..]` holds. Assumes nothing.
-use mathlib.Core.Path.{◌≡◌, refl, sym, ◌∙◌}
-use mathlib.Core.Bool.{Bool, true, false, ◌&&◌, and-true}
-use mathlib.Core.List.{List}
-use Prim.Native.Nat.{ℕ, suc, ◌+◌, ◌-◌, ◌≤◌, ◌<◌}
-use native.Mathlib.Numerals.{add-one}
+-- The test of a file's unused bytes as std's, and what `&p[n..]` holds. Assumes nothing.
+use mathlib.Core.Path.{◌≡◌, refl, ap}
+use mathlib.Core.Bool.{Bool, ◌&&◌}
+use mathlib.Core.List.{List, [], ◌∷◌}
+use Prim.Native.Nat.{ℕ, ◌-◌}
 use native.Mathlib.Nat.{le_of_eq}
 use lib.Dec.{eqb}
-use lib.ListN.{length, get_or, take, drop, length-drop, drop_of_length-le}
-use lib.Seq.{drop-cons, take_all}
+use lib.ListN.{length, take, drop, length-drop}
+use lib.Seq.{take_all}
+use Rattle.std.specs.List.{list_all}
 use Rattle.card.specs.Card.{blank}
 
--- what was passed and what is left decide: `ok` and the rest of the list
-module _ (p : List ℕ) (i : ℕ) (ok : Bool) (so : blank p ≡ (ok && blank (drop i p))) where
-  pub blank_next : i < length p → blank p ≡ ((ok && eqb (get_or p i 0) 0) && blank (drop (i + 1) p))
-  unfolding blank
-  blank_next h = so ∙ rw (add-one, drop-cons p i 0 h) (go ok)
-    where
-      go : (x : Bool) → (x && (eqb (get_or p i 0) 0 && blank (drop (suc i) p))) ≡ ((x && eqb (get_or p i 0) 0) && blank (drop (suc i) p))
-      go true = refl
-      go false = refl
-
-  pub blank_end : length p ≤ i → ok ≡ blank p
-  unfolding blank
-  blank_end h = sym (so ∙ rw (drop_of_length-le p {i = i} h) (and-true ok))
+pub blank_all : (p : List ℕ) → list_all (λ (b : ℕ). eqb b 0) p ≡ blank p
+unfolding blank
+blank_all [] = refl
+blank_all (x ∷ p) = ap (λ (b : Bool). eqb x 0 && b) (blank_all p)
 
 -- what `&p[n..]` holds
 pub rest : (n : ℕ) (p : List ℕ) → take (length p - n) (drop n p) ≡ drop n p

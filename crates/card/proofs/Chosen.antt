@@ -1,13 +1,13 @@
 -- Which of two files rules, as a reference and as bytes, and how long its part is. Assumes nothing.
 use mathlib.Core.Path.{◌≡◌, refl, sym, ap, ◌∙◌}
-use mathlib.Core.Bool.{Bool, true, false, cond, not, ◌&&◌}
+use mathlib.Core.Bool.{Bool, true, false, cond, ◌&&◌}
 use mathlib.Core.List.{List, []}
 use Prim.Native.Nat.{ℕ, ◌≤◌, ◌<◌}
 use native.Mathlib.Omega.{arith}
 use lib.Dec.{eqb}
 use lib.ListN.{length, take}
 use lib.Seq.{length-take-le}
-use borrow.Author.Tests.{eqb-true, eq-eqb, ne_eqb, not-true, not-false}
+use borrow.Author.Tests.{eqb-true, eq-eqb, ne_eqb}
 use denote.Ref.{Bor}
 use Rattle.card.specs.Card.{file, absent, good_or_absent, both_good, ruling_file, part, IsPart}
 
@@ -48,11 +48,11 @@ module _ (long n : ℕ) (card own : List ℕ) where
 
 -- ---- References: what was chosen, and what the tests of the two files say
 
-module _ (long n : ℕ) (card own f : Bor (List ℕ)) (chosen : f ≡ cond (absent card.now) own card) {x y : Bool} (p : x ≡ good_or_absent long n card.now) (q : y ≡ file long n own.now) where
-  both : {t : Bool} → (x && y) ≡ t → both_good long n card.now own.now ≡ t
-  unfolding both_good
-  both e = (λ i. sym p i && sym q i) ∙ e
+pub both_by : (long n : ℕ) (card own : List ℕ) {x y : Bool} → x ≡ good_or_absent long n card → y ≡ file long n own → both_good long n card own ≡ (x && y)
+unfolding both_good
+both_by long n card own p q = rw (p, q)
 
+module _ (long n : ℕ) (card own f : Bor (List ℕ)) (chosen : f ≡ cond (absent card.now) own card) where
   begins : f.ref_ptr ≡ cond (absent card.now) own.ref_ptr card.ref_ptr
   begins = ap (λ (z : Bor (List ℕ)). z.ref_ptr) chosen ∙ go (absent card.now)
     where
@@ -69,14 +69,14 @@ module _ (long n : ℕ) (card own f : Bor (List ℕ)) (chosen : f ≡ cond (abse
       go false = refl
 
   -- two good files: the first n bytes of what was chosen are there, and are its part
-  pub long_enough : n ≤ long → not (x && y) ≡ false → n ≤ length f.now
-  long_enough fits e = let l = ruling_long long n card.now own.now (both (not-false (x && y) e)) in rw holds (omega (arith, l))
+  pub long_enough : n ≤ long → both_good long n card.now own.now ≡ true → n ≤ length f.now
+  long_enough fits e = let l = ruling_long long n card.now own.now e in rw holds (omega (arith, l))
 
-  pub is_part : not (x && y) ≡ false → (r : Bor (List ℕ)) → r.ref_ptr ≡ f.ref_ptr → r.now ≡ take n f.now → IsPart long n card own r
+  pub is_part : both_good long n card.now own.now ≡ true → (r : Bor (List ℕ)) → r.ref_ptr ≡ f.ref_ptr → r.now ≡ take n f.now → IsPart long n card own r
   unfolding part
-  is_part e r at h = record { begins = at ∙ begins; holds = rw (both (not-false (x && y) e)) (h ∙ ap (take n) holds) }
+  is_part e r at h = record { begins = at ∙ begins; holds = rw e (h ∙ ap (take n) holds) }
 
   -- else it has none
-  pub no_part : not (x && y) ≡ true → (r : Bor (List ℕ)) → r.ref_ptr ≡ f.ref_ptr → r.now ≡ [] → IsPart long n card own r
+  pub no_part : both_good long n card.now own.now ≡ false → (r : Bor (List ℕ)) → r.ref_ptr ≡ f.ref_ptr → r.now ≡ [] → IsPart long n card own r
   unfolding part
-  no_part e r at h = record { begins = at ∙ begins; holds = rw (both (not-true (x && y) e)) h }
+  no_part e r at h = record { begins = at ∙ begins; holds = rw e h }

@@ -1,21 +1,15 @@
-// The card's files: whether one is as document 01 has it, which file rules where the card may lack it, and the counter file written. Nothing
-// here knows the buffer.
+// The card's files: whether one is as document 01 has it, which file rules where the card may lack
+// it, and the counter file written. Nothing here knows the buffer.
 #![tactic(auto)]
 
-ghost use Rattle.std.specs.Prelude.{◌≡◌, cond, ◌≤◌, length, replicate};
+ghost use Rattle.std.specs.Prelude.{◌≡◌, cond, ◌≤◌};
 ghost use Rattle.card.specs.Card.{blank, file, absent, good_or_absent, IsPart, written};
 
 // Every byte is 0.
 fn is_blank(p: &[u8]) -> bool
     ensures { result ≡ blank p.now }
 {
-    let mut ok = true;
-    let mut i = 0;
-    while i < p.len() {
-        ok = ok & (p[i] == 0);
-        i += 1;
-    }
-    ok
+    p.iter().all(|&b| b == 0)
 }
 
 // A file of so many bytes, the first n used and every other 0.
@@ -23,47 +17,45 @@ fn is_file(p: &[u8], long: usize, n: usize) -> bool
     requires { n ≤ long }
     ensures { result ≡ file long n p.now }
 {
-    if p.len() != long {
-        return false;
-    }
-    is_blank(&p[n..])
+    p.len() == long && is_blank(&p[n..])
 }
 
-// A file that the card may lack: absent, or a file of so many bytes, the first n used and every other 0.
+// A file that the card may lack: absent, or a file of so many bytes, the first n used and every
+// other 0.
+#[tactic(auto, unfolding(crate::specs::Card::absent, crate::specs::Card::good_or_absent))]
 fn is_good_or_absent(p: &[u8], long: usize, n: usize) -> bool
     requires { n ≤ long }
     ensures { result ≡ good_or_absent long n p.now }
 {
-    if p.len() == 0 {
-        return true;
-    }
-    is_file(p, long, n)
+    p.is_empty() || is_file(p, long, n)
 }
 
 // The file that rules: the card's, or the module's own where the card has none.
+#[tactic(auto, unfolding(crate::specs::Card::absent))]
 fn ruling_file<'a>(card: &'a [u8], own: &'a [u8]) -> &'a [u8]
     ensures { result ≡ cond (absent card.now) own.entry card.entry }
 {
-    if card.len() != 0 {
-        return card;
-    }
-    own
+    if card.is_empty() { own } else { card }
 }
 
-// The first n bytes of the file that rules, as a part of it; an empty part where either file is bad, the module's used or not.
+// The first n bytes of the file that rules, as a part of it; an empty part where either file is
+// bad, the module's used or not. It is no Option, since `IsPart`, which `parameters` and `rates` of
+// the gate promise, has the empty part. The lengths are numbers and no const parameters: each is
+// compared with a length that is read.
 fn part<'a>(card: &'a [u8], own: &'a [u8], long: usize, n: usize) -> &'a [u8]
     requires { n ≤ long }
     ensures { IsPart long n card.entry own.entry result }
 {
     let file = ruling_file(card, own);
-    let good = is_good_or_absent(card, long, n) & is_file(own, long, n);
-    if !good {
-        return &file[..0];
+    if is_good_or_absent(card, long, n) && is_file(own, long, n) {
+        &file[..n]
+    } else {
+        &file[..0]
     }
-    &file[..n]
 }
 
-// The six bytes N1, T1, F1, F2, F3, F4 that rule: a part of the card's parameter file, or of the module's own where the card has none.
+// The six bytes N1, T1, F1, F2, F3, F4 that rule: a part of the card's parameter file, or of the
+// module's own where the card has none.
 pub fn parameters<'a>(card: &'a [u8], own: &'a [u8]) -> &'a [u8]
     ensures { IsPart 32 6 card.entry own.entry result }
 {
@@ -94,31 +86,13 @@ pub const RTC10: [u8; 32] = [
     0, 0, 0, 0, 0, 0, 0, 0, 0, 0, 0, 0, 0, 0, 0, 0, 0, 0, 0, 0, 0, 0, 0, 0, 0, 0,
 ];
 
-// All 32 bytes become 0.
-fn erase(out: &mut [u8])
-    requires { length out.old ≡ 32 }
-    ensures { out.new ≡ replicate 32 0 }
-{
-    let mut i: usize = 0;
-    while i < 32 {
-        out[i] = 0;
-        i += 1;
-    }
-}
-
 // The six counters, as bytes.
 pub type Counters = [u8; 6];
 
 // Writes the counter file: the six counters, and 26 bytes of 0.
-pub fn write(out: &mut [u8], c: Counters)
-    requires { length out.old ≡ 32 }
+pub fn write(out: &mut [u8; 32], c: Counters)
     ensures { out.new ≡ written c }
 {
-    erase(out);
-    out[0] = c[0];
-    out[1] = c[1];
-    out[2] = c[2];
-    out[3] = c[3];
-    out[4] = c[4];
-    out[5] = c[5];
+    out.fill(0);
+    out[..6].copy_from_slice(&c);
 }

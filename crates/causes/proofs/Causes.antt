@@ -1,16 +1,13 @@
 -- The actions of causes by their entries, and the moods. Assumes nothing.
-use mathlib.Core.Path.{◌≡◌, refl, sym, ap, ◌∙◌}
-use mathlib.Core.Bool.{Bool, true, cond, ◌&&◌, ◌||◌, false≢true}
-use mathlib.Core.List.{[], ◌∷◌}
+use mathlib.Core.Path.{◌≡◌, refl, sym}
+use mathlib.Core.Bool.{true, cond, ◌&&◌, false≢true}
 use mathlib.Core.Logic.{◌≢◌}
 use Prim.Native.Nat.{ℕ, ◌-◌, ◌≤◌}
 use native.Mathlib.Omega.{arith}
 use lib.Dec.{ltb, leb, eqb}
 use lib.ListN.{get_or}
 use borrow.Author.Tests.{leb-true, eqb-true, ne_eqb}
-use Rattle.rules.specs.Tables.{mood_on}
 use Rattle.rules.specs.Causes.{Action, back_off, both_back_off, re_attach, other_network, as_3GPP, not_same_PLMN, not_same_area, not_same_cell, reactivate, re_establish, printed, number_of, of_both, action, both}
-use Rattle.rules.proofs.Among.{tests_among}
 use Rattle.rules.proofs.Checks.{and_left, and_right}
 use Rattle.causes.specs.Tables.{plain, spelled, numbers, means}
 
@@ -32,9 +29,9 @@ tells not_same_cell second = refl
 tells reactivate second = refl
 tells re_establish second = refl
 
-pub entry_tells : (column cause second : ℕ) {e : ℕ} → e ≡ spelled (printed column cause).action → told e second ≡ action column cause second
+pub action_told : (column cause second : ℕ) → action column cause second ≡ told (spelled (printed column cause).action) second
 unfolding action
-entry_tells column cause second p = ap (λ (e : ℕ). told e second) p ∙ tells (printed column cause).action second
+action_told column cause second = sym (tells (printed column cause).action second)
 
 pub tells_both : (x : Action) → eqb (spelled x) 100 ≡ of_both x
 tells_both back_off = refl
@@ -101,9 +98,3 @@ means_one e n h m =
       high = leb-true e 121 (and_right (leb 97 e) _ range);
       is = eqb-true _ n (and_right (leb 97 e && leb e 121) _ t);
     }
-
--- ---- The moods
-
-pub moods : (k : ℕ) {x : Bool} → (((((eqb k 8 || eqb k 27) || eqb k 28) || eqb k 29) || eqb k 32) || eqb k 33) ≡ x → cond x 2 3 ≡ mood_on k
-unfolding mood_on
-moods k e = ap (λ (x : Bool). cond {A = ℕ} x 2 3) (sym e ∙ tests_among (eqb k 8) k (27 ∷ 28 ∷ 29 ∷ 32 ∷ 33 ∷ []))

@@ -13,12 +13,6 @@ use Rattle.rules.specs.Causes.{Row, row, as_3GPP, none, columns, row_of, printed
 use Rattle.rules.proofs.Checks.{and_left, and_right}
 use Rattle.causes.specs.Tables.{plain, entry_at, spelled, means}
 
--- inside a table it does not matter what stands for a cause beyond it
-pub inside_alike : (xs : List ℕ) (k d e : ℕ) → k < length xs → get_or xs k d ≡ get_or xs k e
-inside_alike [] k d e h = absurd (not-suc-le-zero h)
-inside_alike (x ∷ xs) zero d e h = refl
-inside_alike (x ∷ xs) (suc k) d e h = inside_alike xs k d e (le_of_suc-le-suc h)
-
 -- `fits e r`: entry e is right for row r; d is the entry of a cause beyond the table
 module _ (fits : ℕ → Row → Bool) (d : ℕ) where
   -- each entry fits the row of its cause, counted from i

@@ -7,17 +7,15 @@ ghost use Rattle.rules.specs.Tables.{mood_on};
 ghost use Rattle.rules.specs.Causes.{printed, action, both};
 ghost use Rattle.causes.specs.Tables.{entry_at, spelled, means, error_for};
 
+use refusals::Refusal;
 use rules::Answer;
 
 // The entry of a cause in a table; of one beyond it, that of a cause without a row.
+#[tactic(auto, unfolding(crate::specs::Tables::entry_at))]
 fn at(table: &[u8], cause: u32) -> u8
     ensures { result ≡ entry_at table.now cause }
 {
-    let i = cause as usize;
-    if i < table.len() {
-        return table[i];
-    }
-    b'.'
+    table.get(cause as usize).copied().unwrap_or(b'.')
 }
 
 // ---- The actions: a table for each column with an entry for each cause. `.` is as 3GPP says, `b`
@@ -75,48 +73,36 @@ fn cp(cause: u32) -> u8
 }
 
 // The entry of a cause of any column; an unknown one has no rows.
+#[tactic(auto, using(crate::proofs::Table::no_rows))]
 fn entry(column: u32, cause: u32) -> u8
     ensures { result ≡ spelled (printed column cause).action }
 {
-    if column == 0 {
-        return mm(cause);
+    match column {
+        0 => mm(cause),
+        1 => gmm(cause),
+        2 => sm(cause),
+        3 => rp(cause),
+        4 => cp(cause),
+        _ => b'.',
     }
-    if column == 1 {
-        return gmm(cause);
-    }
-    if column == 2 {
-        return sm(cause);
-    }
-    if column == 3 {
-        return rp(cause);
-    }
-    if column == 4 {
-        return cp(cause);
-    }
-    b'.'
 }
 
 // What to do on a cause; second is 1 where a second network is there.
+#[tactic(auto, using(crate::proofs::Causes::action_told, crate::proofs::Causes::entry_low))]
 pub fn action(column: u32, cause: u32, second: u32) -> u32
     ensures { result ≡ action column cause second }
 {
-    let e = entry(column, cause);
-    if e == b'.' {
-        return 23;
+    match entry(column, cause) {
+        b'.' => 23,
+        b'2' if second == 1 => 22,
+        b'2' => 20,
+        e if e <= b'9' => u32::from(e) - 28,
+        _ => 20,
     }
-    if b'9' < e {
-        return 20;
-    }
-    if e != b'2' {
-        return (e as u32) - 28;
-    }
-    if second == 1 {
-        return 22;
-    }
-    20
 }
 
 // Whether both registrations back off on a cause.
+#[tactic(auto, using(crate::proofs::Causes::tells_both), unfolding(rules::specs::Causes::both))]
 pub fn both(column: u32, cause: u32) -> bool
     ensures { result ≡ both column cause }
 {
@@ -173,64 +159,52 @@ fn rp_error(cause: u32) -> u8
 }
 
 // The letter of a cause of any column; in CP, and in an unknown one, none has a number.
+#[tactic(auto, using(crate::proofs::Table::no_number))]
 fn letter(column: u32, cause: u32) -> u8
     ensures { means result (printed column cause).error ≡ true }
 {
-    if column == 0 {
-        return mm_error(cause);
+    match column {
+        0 => mm_error(cause),
+        1 => gmm_error(cause),
+        2 => sm_error(cause),
+        3 => rp_error(cause),
+        _ => b'.',
     }
-    if column == 1 {
-        return gmm_error(cause);
-    }
-    if column == 2 {
-        return sm_error(cause);
-    }
-    if column == 3 {
-        return rp_error(cause);
-    }
-    b'.'
 }
 
-// The error number that stands beside a cause, 0 where none does.
+// The error number that stands beside a cause, 0 where none does: the AT side is given this number.
+#[tactic(auto, using(crate::proofs::Causes::means_none, crate::proofs::Causes::means_one))]
 fn number(column: u32, cause: u32) -> u32
     ensures { result ≡ (printed column cause).error }
 {
-    let e = letter(column, cause);
-    if e == b'.' {
-        return 0;
+    match letter(column, cause) {
+        b'.' => 0,
+        e => NUMBERS[usize::from(e - b'a')],
     }
-    NUMBERS[(e - b'a') as usize]
 }
 
 // The CME number of a cause in columns 0 to 2, the CMS number in columns 3 and 4, for the AT side: 0
 // with the number, or with 0 where none is printed; 2 for a column above 4 or a cause above 255.
+#[tactic(auto, unfolding(crate::specs::Tables::error_for))]
 pub fn error(column: u32, cause: u32) -> Answer
     ensures { result ≡ error_for column cause }
 {
-    if (column <= 4) & (cause <= 255) {
+    if column <= 4 && cause <= 255 {
         return Answer {
             number: 0,
             second: number(column, cause),
         };
     }
-    Answer {
-        number: 2,
-        second: 0,
-    }
+    Refusal::Range.into()
 }
 
 // The mood of service 2 after a rejection: 2 permanent, 3 temporary.
+#[tactic(auto, unfolding(rules::specs::Tables::mood_on))]
 pub fn mood(cause: u32) -> u32
     ensures { result ≡ mood_on cause }
 {
-    if (cause == 8)
-        | (cause == 27)
-        | (cause == 28)
-        | (cause == 29)
-        | (cause == 32)
-        | (cause == 33)
-    {
-        return 2;
+    match cause {
+        8 | 27 | 28 | 29 | 32 | 33 => 2,
+        _ => 3,
     }
-    3
 }

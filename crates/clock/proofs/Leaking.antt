@@ -33,11 +33,6 @@ rate_low b g i h = go i h
 abbrev lose : List ℕ → ℕ → ℕ → List ℕ
 lose l i g = set l i (get_or l i 0 - g)
 
--- a counter is read, g points are taken from it, and what is left is stored
-pub one_drained : (b : List ℕ) (i g : ℕ) {x : List ℕ} {n left : ℕ} → n ≡ get_or b (COUNTERS + i) 0
-    → left ≡ n - g → x ≡ set b (COUNTERS + i) left → x ≡ drained b i g
-one_drained b i g e l s = cc
-
 drain_laid : {b : List ℕ} {f : Facts} {rs : List (List ℕ)} → Laid b f rs → (i g : ℕ) → i < 6 → Laid (drained b i g) (with_counters f (lose f.counters i g)) rs
 drain_laid {b} {f} {rs} l i g h =
     subst (λ (x : ℕ). Laid (drained b i g) (with_counters f (set f.counters i (x - g))) rs) (counter_at l i h) (laid_counter l i (get_or b (COUNTERS + i) 0 - g) h)

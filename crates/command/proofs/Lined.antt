@@ -3,28 +3,27 @@ use mathlib.Core.Path.{◌≡◌, refl, sym, ap, ◌∙◌, subst}
 use mathlib.Core.Bool.{Bool, true, false, and-false}
 use mathlib.Core.List.{List, ◌++◌}
 use mathlib.Core.Logic.{◌≢◌}
-use Prim.Native.Nat.{ℕ, suc, ◌+◌, ◌≤◌}
+use Prim.Native.Nat.{ℕ, ◌≤◌}
 use native.Mathlib.Omega.{arith}
 use lib.Dec.{leb}
-use lib.ListN.{length, get_or, set}
+use lib.ListN.{length, get_or}
 use lib.Seq.{sets, length-sets}
 use Rattle.rules.specs.declared.Answer.{Answer}
 use Rattle.rules.specs.Calls.{Line, query, nfm, nfm_start, intervals, bad, typed, answer}
 use Rattle.rules.specs.Rules.{ruling, refusal, refused, verdict, changed, obeyed, adds}
 use Rattle.rules.specs.State.{Facts}
 use Rattle.buffer.specs.Places.{NFM, START}
-use Rattle.buffer.specs.Segments.{pad, paste}
+use Rattle.buffer.specs.Segments.{paste}
 use Rattle.buffer.specs.Layout.{rows, facts_of, view}
 use Rattle.buffer.specs.Good.{good}
 use Rattle.buffer.proofs.Laid.{Laid, laid_good, laid_as, laid_intervals}
-use Rattle.buffer.proofs.Laying.{length_pad}
 use Rattle.buffer.proofs.Sane.{good_sane}
 use Rattle.opening.proofs.Copying.{stored as stores}
 use Rattle.clock.specs.Call.{call_answer, Says}
 use Rattle.clock.proofs.Saying.{moves, says_good, says_refused}
 use Rattle.text.proofs.Choice.{absurd_bool}
 use Rattle.at.specs.Lines.{read_line}
-use Rattle.at.specs.Order.{ten, list_of}
+use Rattle.at.specs.Order.{list_of}
 use Rattle.at.specs.Print.{Valid}
 use Rattle.at.proofs.RoundTrip.{from_scheduled, accepted, read_accepted}
 use Rattle.settings.specs.Settings.{turned, timed_by}
@@ -40,14 +39,6 @@ module _ (b : List ℕ) (g : good b ≡ true) (l : Line) (h : refusal (facts_of 
   pub says_line : (a : Answer) {x : List ℕ} → verdict (view b) (typed l) ≡ a → refused a ≡ false → Laid x (obeyed l (facts_of b)) (rows (view b).lists) → Says b (typed l) a x
   unfolding changed adds
   says_line a v n d = says_good b g (typed l) a (rules_on ∙ v) (d.is ∙ sym (moves b g (typed l) a (rules_on ∙ v) n (λ k. refl)))
-
--- OK written from a place on, as the code counts places
-pub okay_at : (room : List ℕ) (i : ℕ) → i + 4 ≤ length room → set (set (set (set room i 79) (i + 1) 75) (i + 2) 13) (i + 3) 10 ≡ paste room i okay
-okay_at room i h =
-    let one : i + 1 ≡ suc i = omega arith in
-    let two : i + 2 ≡ suc (suc i) = omega arith in
-    let three : i + 3 ≡ suc (suc (suc i)) = omega arith in
-    rw (one, two, three) (stores room okay i h)
 
 -- NFM and Start Timer, then OK
 pub both_parts : (room : List ℕ) (a s : ℕ) → 15 ≤ length room → paste (paste room 0 (shown a s)) 11 okay ≡ paste room 0 (shown a s ++ okay)
@@ -96,11 +87,6 @@ few line = go (read_line line) refl
     go (nfm_start a s) e = omega arith
     go (intervals xs) e = (from_scheduled xs (is_valid line (intervals xs) e refl)).1
     go bad e = omega arith
-
--- and its list ten places
-pub ten_long : (line : List ℕ) → length (ten (list_of (read_line line))) ≡ 10
-unfolding pad
-ten_long line = length_pad 10 (list_of (read_line line)) (few line)
 
 -- what each kind of line has to show on a good state
 module _ (b : List ℕ) (g : good b ≡ true) (line room : List ℕ) where

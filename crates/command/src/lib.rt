@@ -1,29 +1,30 @@
-// The call for AT lines: what a line says is done, and its answer is written to the room that the caller lends. It does not move the clock.
+// The call for AT lines: what a line says is done, and its answer is written to the room that the
+// caller lends. It does not move the clock.
 #![tactic(auto)]
 
-ghost use Rattle.std.specs.Prelude.{◌≡◌, true, ◌+◌, ◌≤◌, length};
-ghost use Rattle.rules.specs.Calls.{typed, query};
-ghost use Rattle.buffer.specs.Places.{SIZE};
+ghost use Rattle.std.specs.Prelude.{◌≡◌, true, ◌+◌, ◌≤◌, length, is_err};
+ghost use Rattle.rules.specs.Calls.{typed, query, answer};
+ghost use Rattle.rules.specs.Rules.{refused};
+ghost use Rattle.refusals.specs.Refusals.{told as two};
 ghost use Rattle.buffer.specs.Segments.{paste};
 ghost use Rattle.buffer.specs.Layout.{facts_of};
 ghost use Rattle.buffer.specs.Good.{good};
 ghost use Rattle.clock.specs.Call.{Says};
 ghost use Rattle.at.specs.Lines.{read_line};
-ghost use Rattle.command.specs.Command.{okay as okayBytes, shown, reply, CommandSays};
+ghost use Rattle.command.specs.Command.{okay as ok_bytes, shown, reply, CommandSays};
 
-use at::Kind;
-use buffer::fields;
+use at::Order;
+use buffer::places;
+use buffer::places::Buffer;
+use refusals::Refusal;
 use rules::Answer;
 
 // OK CR LF, from a place on.
 fn okay(out: &mut [u8], i: usize)
     requires { i + 4 ≤ length out.old }
-    ensures { out.new ≡ paste out.old i okayBytes }
+    ensures { out.new ≡ paste out.old i ok_bytes }
 {
-    out[i] = b'O';
-    out[i + 1] = b'K';
-    out[i + 2] = 13;
-    out[i + 3] = 10;
+    out[i..i + 4].copy_from_slice(b"OK\r\n");
 }
 
 // +NFM: a,s CR LF.
@@ -32,78 +33,72 @@ fn told(out: &mut [u8], a: u8, s: u8)
     requires a_bound { (a ≤ 1) × (s ≤ 1) }
     ensures { out.new ≡ paste out.old 0 (shown a s) }
 {
-    out[0] = b'+';
-    out[1] = b'N';
-    out[2] = b'F';
-    out[3] = b'M';
-    out[4] = b':';
-    out[5] = b' ';
-    out[6] = b'0' + a;
-    out[7] = b',';
-    out[8] = b'0' + s;
-    out[9] = 13;
-    out[10] = 10;
+    let bytes = [
+        b'+',
+        b'N',
+        b'F',
+        b'M',
+        b':',
+        b' ',
+        b'0' + a,
+        b',',
+        b'0' + s,
+        b'\r',
+        b'\n',
+    ];
+    out[..11].copy_from_slice(&bytes);
 }
 
 // The read: NFM and Start Timer, then OK.
-fn show(s: &[u32], out: &mut [u8])
-    requires s_len { length s.now ≡ SIZE }
+fn show(s: &Buffer, out: &mut [u8])
     requires s_value { good s.now ≡ true }
     requires in_bounds { 16 ≤ length out.old }
     ensures { out.new ≡ paste out.old 0 (reply (facts_of s.now) query) }
 {
-    told(out, fields::nfm(s) as u8, fields::start(s) as u8);
+    told(out, s[places::NFM] as u8, s[places::START] as u8);
     okay(out, 11);
 }
 
+// The answer to a line that was done, with the bytes that were written.
+fn wrote(bytes: u32) -> Answer
+    ensures { result ≡ answer 0 bytes }
+{
+    Answer {
+        number: 0,
+        second: bytes,
+    }
+}
+
 // An AT line on a good buffer.
-pub fn command_in(s: &mut [u32], line: &[u8], out: &mut [u8]) -> Answer
-    requires s_len { length s.old ≡ SIZE }
+pub fn command_in(s: &mut Buffer, line: &[u8], out: &mut [u8]) -> Result<Answer, Refusal>
     requires s_value { good s.old ≡ true }
     requires in_bounds { 16 ≤ length out.old }
-    ensures { Says s.old (typed (read_line line.now)) result s.new × (out.new ≡ paste out.old 0 (reply (facts_of s.old) (read_line line.now))) }
+    ensures says { Says s.old (typed (read_line line.now)) (two result) s.new }
+    ensures written { out.new ≡ paste out.old 0 (reply (facts_of s.old) (read_line line.now)) }
+    ensures refused { refused (two result) ≡ is_err result }
 {
-    let order = at::read(line);
-    let kind = order.kind;
-    match kind {
-        Kind::Query => {
+    match at::read(line) {
+        Some(Order::Query) => {
             show(s, out);
-            Answer {
-                number: 0,
-                second: 15,
-            }
+            Ok(wrote(15))
         }
-        Kind::Nfm(a) => {
-            let start = fields::start(s);
+        Some(Order::Nfm(a)) => {
+            let start = s[places::START];
             settings::turn(s, a, start);
             okay(out, 0);
-            Answer {
-                number: 0,
-                second: 4,
-            }
+            Ok(wrote(4))
         }
-        Kind::NfmStart(a, start) => {
+        Some(Order::NfmStart(a, start)) => {
             settings::turn(s, a, start);
             okay(out, 0);
-            Answer {
-                number: 0,
-                second: 4,
-            }
+            Ok(wrote(4))
         }
-        Kind::Intervals => {
-            settings::schedule(s, &order.list, order.count);
+        Some(Order::Intervals(intervals)) => {
+            settings::schedule(s, &intervals.list[..intervals.count]);
             okay(out, 0);
-            Answer {
-                number: 0,
-                second: 4,
-            }
+            Ok(wrote(4))
         }
-        Kind::Bad => {
-            Answer {
-                number: 5,
-                second: 0,
-            }
-        }
+        None => Err(Refusal::Line),
     }
 }
 
@@ -112,16 +107,10 @@ pub fn command(s: &mut [u32], line: &[u8], out: &mut [u8]) -> Answer
     ensures { CommandSays s.old line.now out.old result s.new out.new }
 {
     if out.len() < 16 {
-        return Answer {
-            number: 1,
-            second: 0,
-        };
+        return Refusal::Buffer.into();
     }
-    if !inspect::is_good(s) {
-        return Answer {
-            number: 1,
-            second: 0,
-        };
-    }
-    command_in(s, line, out)
+    let Some(state) = inspect::good_mut(s) else {
+        return Refusal::Buffer.into();
+    };
+    refusals::told(command_in(state, line, out))
 }

@@ -1,5 +1,5 @@
-// The C interface: the twelve calls of the gate and the ten of the journal, exported. Each slice is a
-// pointer and a count, and each call gives back two numbers. include/dialchisel.h says what the
+// The C interface: the twelve calls of the gate and the ten of the journal, exported. Each slice is
+// a pointer and a count, and each call gives back two numbers. include/dialchisel.h says what the
 // caller owes. Each call promises what the call that it hands on to does.
 #![tactic(auto)]
 
@@ -65,8 +65,9 @@ pub extern "C" fn dialchisel_request(state: &mut [u32], time: u32, kind: u32) ->
     gate::request(state, time, kind)
 }
 
-// Why would request `kind` not be permitted at `time`? The first rule that stands against it and a bit for each, or the refusal; the permit times
-// that have to leave the hour go to a room of exactly eight numbers. The state is only read.
+// Why would request `kind` not be permitted at `time`? The first rule that stands against it and a
+// bit for each, or the refusal; the permit times that have to leave the hour go to a room of
+// exactly eight numbers. The state is only read.
 #[unsafe(no_mangle)]
 pub extern "C" fn dialchisel_why(state: &[u32], time: u32, kind: u32, times: &mut [u32]) -> Answer
     ensures { RoomSays state.now time kind times.old result times.new }
@@ -131,8 +132,8 @@ pub extern "C" fn dialchisel_tick(state: &mut [u32], time: u32) -> Answer
     gate::tick(state, time)
 }
 
-// An AT line, its CR included: what it says is done, and its answer is written to the room, of at least 16 bytes. The second number is the bytes
-// written.
+// An AT line, its CR included: what it says is done, and its answer is written to the room, of at
+// least 16 bytes. The second number is the bytes written.
 #[unsafe(no_mangle)]
 pub extern "C" fn dialchisel_command(state: &mut [u32], line: &[u8], out: &mut [u8]) -> Answer
     ensures { CommandSays state.old line.now out.old result state.new out.new }

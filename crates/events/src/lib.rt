@@ -3,19 +3,22 @@
 // that is known to be good.
 #![tactic(auto)]
 
-ghost use Rattle.std.specs.Prelude.{◌≡◌, true, length};
+ghost use Rattle.std.specs.Prelude.{◌≡◌, true, is_err};
 ghost use Rattle.rules.specs.Calls.{timed};
-ghost use Rattle.buffer.specs.Places.{SIZE};
+ghost use Rattle.rules.specs.Rules.{refused};
+ghost use Rattle.refusals.specs.Refusals.{told};
 ghost use Rattle.buffer.specs.Good.{good};
 ghost use Rattle.clock.specs.Call.{Says};
 
+use buffer::places::Buffer;
+use refusals::Refusal;
 use rules::{Answer, Event};
 
 // What happens at t, on a good buffer.
-pub fn happen_in(s: &mut [u32], t: u32, e: Event) -> Answer
-    requires s_len { length s.old ≡ SIZE }
-    requires s_value { good s.old ≡ true }
-    ensures { Says s.old (timed t e) result s.new }
+pub fn happen_in(s: &mut Buffer, t: u32, e: Event) -> Result<Answer, Refusal>
+    requires { good s.old ≡ true }
+    ensures says { Says s.old (timed t e) (told result) s.new }
+    ensures refused { refused (told result) ≡ is_err result }
 {
     match e {
         Event::Ask(q) => request::request_in(s, t, q),
@@ -29,11 +32,8 @@ pub fn happen_in(s: &mut [u32], t: u32, e: Event) -> Answer
 pub fn happen(s: &mut [u32], t: u32, e: Event) -> Answer
     ensures { Says s.old (timed t e) result s.new }
 {
-    if !inspect::is_good(s) {
-        return Answer {
-            number: 1,
-            second: 0,
-        };
-    }
-    happen_in(s, t, e)
+    let Some(state) = inspect::good_mut(s) else {
+        return Refusal::Buffer.into();
+    };
+    refusals::told(happen_in(state, t, e))
 }

@@ -5,20 +5,15 @@
 ghost use Rattle.files.specs.Beside.{Beside};
 
 // Puts `.new` after the name in the first n bytes of the room, and answers the length of the two;
-// 0, and the room as it was, where that is more than the room has.
-pub fn beside(room: &mut [u8], n: usize) -> usize
+// `None`, and the room as it was, where that is more than the room has.
+#[tactic(auto, using(crate::proofs::Naming::no_room, crate::proofs::Naming::named))]
+pub fn beside(room: &mut [u8], n: usize) -> Option<usize>
     ensures { Beside room.old n result room.new }
 {
-    let most = room.len();
-    if most < n {
-        return 0;
+    let end = n.checked_add(4)?;
+    if room.len() < end {
+        return None;
     }
-    if most - n < 4 {
-        return 0;
-    }
-    room[n] = b'.';
-    room[n + 1] = b'n';
-    room[n + 2] = b'e';
-    room[n + 3] = b'w';
-    n + 4
+    room[n..end].copy_from_slice(b".new");
+    Some(end)
 }

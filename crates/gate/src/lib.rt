@@ -82,15 +82,16 @@ pub fn request(state: &mut [u32], time: u32, kind: u32) -> Answer
     events::happen(state, time, Event::Ask(kind))
 }
 
-// Why would request `kind` not be permitted at `time`? Which rules stand against it, which comes first, and which permit of each limit has to leave
-// the hour. The state is only read.
+// Why would request `kind` not be permitted at `time`? Which rules stand against it, which comes
+// first, and which permit of each limit has to leave the hour. The state is only read.
 pub fn why(state: &[u32], time: u32, kind: u32) -> Why
     ensures { result ≡ why_of state.now time kind }
 {
     reasons::why(state, time, kind)
 }
 
-// The same in two numbers, the first rule and a bit for each, or the refusal; the times go to a room of exactly eight numbers.
+// The same in two numbers, the first rule and a bit for each, or the refusal; the times go to a
+// room of exactly eight numbers.
 pub fn why_into(state: &[u32], time: u32, kind: u32, times: &mut [u32]) -> Answer
     ensures { RoomSays state.now time kind times.old result times.new }
 {
@@ -152,8 +153,8 @@ pub fn tick(state: &mut [u32], time: u32) -> Answer
     events::happen(state, time, Event::Tick)
 }
 
-// An AT line, its CR included: what it says is done, and its answer is written to the room, of at least 16 bytes. The second number is the bytes
-// written.
+// An AT line, its CR included: what it says is done, and its answer is written to the room, of at
+// least 16 bytes. The second number is the bytes written.
 pub fn command(state: &mut [u32], line: &[u8], out: &mut [u8]) -> Answer
     ensures { CommandSays state.old line.now out.old result state.new out.new }
 {

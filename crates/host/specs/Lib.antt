@@ -1,2 +1,1 @@
--- What the programs tell of a word that they were not given.
 pub mod Told

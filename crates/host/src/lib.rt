@@ -2,24 +2,25 @@
 // started with, and a line on standard error that says why something failed.
 #![tactic(auto)]
 
-ghost use Rattle.std.specs.Prelude.{◌≡◌, ◌≤◌, ◌<◌, ◌↔◌, length, take, IfOk, IsOk, Some};
+ghost use Rattle.std.specs.Prelude.{◌≡◌, ◌≤◌, ◌<◌, ◌↔◌, length, take, IfOk, IsOk, OnOk, Some};
 ghost use Rattle.std.specs.Str.{IsUtf8};
 ghost use Rattle.std.specs.Io.{ReadsAtMost};
 ghost use Rattle.std.specs.Io.KnownBytes.{Consumes, IsAtEnd};
 ghost use Rattle.std.specs.IoError.{raw_os_error};
-ghost use Rattle.host.specs.Told.{error_of};
+ghost use Rattle.host.specs.Told.{error_of, Tells};
 
 use std::env::{Env, FillError};
 use std::io;
 use std::io::{Read, Write};
 
 // Reads until the room is full or the input ends, and answers how many bytes stand at its front.
+// The loop is a `while`: a turn goes on by what a read brought.
 pub fn read_full<R: Read>(from: &mut R, room: &mut [u8]) -> io::Result<usize>
     ensures bound { ReadsAtMost result room.new }
     ensures bytes { IfOk result (λ n. Consumes (R.remaining from.old) (R.remaining from.new) (take n room.new)) }
     ensures end { IfOk result (λ n. n < length room.new → IsAtEnd (R.remaining from.new)) }
 {
-    let mut at: usize = 0;
+    let mut at = 0;
     while at < room.len() {
         let n = from.read(&mut room[at..])?;
         if n == 0 {
@@ -32,12 +33,8 @@ pub fn read_full<R: Read>(from: &mut R, room: &mut [u8]) -> io::Result<usize>
 
 // Whether the program was started with a word i. Word 0 is its own name.
 pub fn has_arg<E: Env>(env: &E, i: usize) -> bool {
-    let mut room = [0u8; 1];
-    match env.arg(i, &mut room) {
-        Ok(_) => true,
-        Err(FillError::TooLong) => true,
-        Err(FillError::NotPresent) => false,
-    }
+    let mut room = [0; 1];
+    !matches!(env.arg(i, &mut room), Err(FillError::NotPresent))
 }
 
 // The system's numbers of two errors: of what makes no sense, and of a name that is too long.
@@ -60,25 +57,33 @@ pub fn name_of(bytes: &[u8]) -> io::Result<&str>
     ensures same { IfOk result (λ text. text.now ≡ bytes.now) }
     ensures utf8 { IsOk result ↔ IsUtf8 bytes.now }
 {
-    match std::str::from_utf8(bytes) {
-        Ok(text) => Ok(text),
-        Err(_) => Err(io::Error::new(io::ErrorKind::InvalidFilename, "the name is not UTF-8")),
-    }
+    std::str::from_utf8(bytes).map_err(|_| io::Error::new(
+        io::ErrorKind::InvalidFilename,
+        "the name is not UTF-8",
+    ))
 }
 
-// Writes a line: what failed, a colon and why, in the system's words. Where it cannot be written
-// there is nobody to tell.
-pub fn fail<W: Write>(to: &mut W, what: &[u8], why: io::Error) {
-    let mut room = [0u8; 300];
+// Writes a line: what failed, a colon and why, in the system's words. Where a part of it cannot be
+// written the others are, and the answer is the first error.
+pub fn tell<W: Write>(to: &mut W, what: &[u8], why: io::Error) -> io::Result<()>
+    ensures { OnOk result (Tells (W.contents to.old) (W.contents to.new) what.now) }
+{
+    let mut room = [0; 300];
     let n = words(&why, &mut room);
-    let _ = to.write_all(what);
-    let _ = to.write_all(b": ");
-    let _ = to.write_all(without_number(&room[..n]));
-    let _ = to.write_all(b"\n");
+    let named = to.write_all(what);
+    let parted = to.write_all(b": ");
+    let told = to.write_all(without_number(&room[..n]));
+    let ended = to.write_all(b"\n");
+    named.and(parted).and(told).and(ended)
 }
 
-// Puts the words of an error at the front of the room, as far as there is room, and answers how many
-// bytes they are.
+// The same, where there is nobody to tell that the line could not be written.
+pub fn fail<W: Write>(to: &mut W, what: &[u8], why: io::Error) {
+    let _ = tell(to, what, why);
+}
+
+// Puts the words of an error at the front of the room, as far as there is room, and answers how
+// many bytes they are.
 fn words(why: &io::Error, room: &mut [u8]) -> usize
     ensures { result ≤ length room.new }
 {

@@ -7,9 +7,11 @@ use Prim.Native.Nat.{ℕ, ◌≤◌}
 use borrow.Author.Tests.{eq-eqb, ne_eqb, leb-true}
 use lib.Dec.{leb, eqb}
 use lib.ListN.{length, get_or, take, drop}
-use Rattle.buffer.specs.Places.{VERSION, COUNT, LENGTHS}
+use Rattle.std.specs.Prelude.{◌≢◌, Option, Some, None, MatchOption}
+use Rattle.std.specs.Array.{IsWholeChunk}
+use Rattle.buffer.specs.Places.{SIZE, CURRENT, VERSION, COUNT, LENGTHS}
 use Rattle.buffer.specs.Segments.{part}
-use Rattle.buffer.specs.Good.{bytes, every, count_good, lines, good_as, some_lines}
+use Rattle.buffer.specs.Good.{bytes, every, count_good, lines, good_as, good, some_lines}
 use Rattle.rules.proofs.Checks.{and_left, and_right}
 use Rattle.buffer.proofs.Tests.{pick, passed, fails}
 use Rattle.buffer.proofs.Goodness.{both_true}
@@ -74,3 +76,15 @@ module _ (b : List ℕ) where
           (passed (take 4 (drop 6 (lines b))) (L 6, (L 7, (L 8, (L 9, tt))))))
           (passed (take 4 (drop 10 (lines b))) (L 10, (L 11, (L 12, (L 13, tt))))))
           (passed (take 1 (drop 15 (lines b))) (L 15, tt))
+
+-- a buffer of another length is not good
+pub not_long : (b : List ℕ) → (length b ≡ SIZE → ⊥) → good b ≡ false
+unfolding good
+not_long b h = sym (wrong_length SIZE CURRENT b h)
+
+-- of a good buffer the whole is lent on, whichever the reference
+pub lent_on : {T : Type 0} (now : T → List ℕ) (b : List ℕ) (r : Option T) → good b ≡ true
+    → MatchOption r (length b ≢ SIZE) (λ whole. IsWholeChunk b (now whole) SIZE)
+    → MatchOption r (good b ≡ false) (λ whole. (good b ≡ true) × (now whole ≡ b))
+lent_on now b None g c = not_long b c
+lent_on now b (Some whole) g c = (g, c.same)

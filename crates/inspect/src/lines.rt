@@ -1,5 +1,6 @@
 // The lines of the table, as the code tests them. The numbers of what is used come first: without
-// them no list can be cut.
+// them no list can be cut. The length is a clause here and no type: the places of the first version
+// stand in front in every one, and `lines` speaks of the whole buffer.
 ghost use Rattle.std.specs.Prelude.{◌≡◌, true, ◌&&◌, ◌+◌, ◌<◌, ◌≤◌, length, get_or};
 ghost use Rattle.buffer.specs.Places.{BASE, COUNT, LENGTHS};
 ghost use Rattle.buffer.specs.Segments.{part};

@@ -9,10 +9,8 @@ pub(crate) fn capped(p: &[u32], hi: u32) -> bool
     ensures { result ≡ at_most hi p.now }
 {
     let mut ok = true;
-    let mut i = 0;
-    while i < p.len() {
-        ok = ok & (p[i] <= hi);
-        i += 1;
+    for &x in p {
+        ok &= x <= hi;
     }
     ok
 }
@@ -24,12 +22,9 @@ pub fn rising(p: &[u32], lo: u32, hi: u32) -> bool
 {
     let mut ok = true;
     let mut low = lo;
-    let mut i = 0;
-    while i < p.len() {
-        let x = p[i];
-        ok = ok & (low <= x);
+    for &x in p {
+        ok &= low <= x;
         low = x;
-        i += 1;
     }
-    ok & ((p.len() == 0) | (low <= hi))
+    ok & (p.is_empty() | (low <= hi))
 }

@@ -10,11 +10,13 @@ use native.Mathlib.Omega.{arith}
 use lib.ListN.{length, take, drop, get_or, length-drop, drop_of_length-le, take-append-drop}
 use lib.Seq.{drop-cons, drop-drop, get_or-take, get_or-drop, drop-append_seam}
 use lib.Dec.{eqb}
-use borrow.Author.Tests.{eq-eqb, ne_eqb}
+use borrow.Author.Tests.{ne_eqb}
+use Rattle.std.specs.List.{list_all}
+use Rattle.std.specs.Simd.{first_chunks}
 use Rattle.journal.specs.declared.Survey.TheVariants.{Bad, Clean, Torn}
 use Rattle.journal.specs.Area.{parts, slots, slot, begun, closed, erased, records, rest, blank, torn, shape, free, count, survey}
-use Rattle.journal.proofs.Bytes.{parts_length, slots_length, next_place, slots_at, slot_long}
-use Rattle.journal.proofs.Slots.{split, any_default, count_most, free_most}
+use Rattle.journal.proofs.Bytes.{parts_length, parts_at, slots_length, next_place, slots_at, slot_long}
+use Rattle.journal.proofs.Slots.{split, any_default, count_most}
 
 -- ---- All bytes from a place on
 
@@ -51,21 +53,21 @@ unfolding slots
 blank_from a long j h =
     ap blank (drop_parts 128 512 j a h) ∙ blank_parts 128 (512 - j) (drop (j * 128) a) (simp length-drop (omega arith))
 
--- one byte more
-module _ (a : List ℕ) (i : ℕ) (h : i < length a) where
-  pub erased_bad : (get_or a i 0 ≡ 255 → ⊥) → erased (drop i a) ≡ false
-  unfolding erased
-  erased_bad g = rw (drop-cons a i 0 h, ne_eqb _ _ g)
-
-  pub erased_on : get_or a i 0 ≡ 255 → erased (drop (i + 1) a) ≡ erased (drop i a)
-  unfolding erased
-  erased_on g = rw (drop-cons a i 0 h, eq-eqb _ _ g, add-one)
-
-pub erased_end : (a : List ℕ) (i : ℕ) → length a ≤ i → erased (drop i a) ≡ true
+pub erased_all : (l : List ℕ) → list_all (λ (b : ℕ). eqb b 255) l ≡ erased l
 unfolding erased
-erased_end a i h = rw (drop_of_length-le a h)
+erased_all [] = refl
+erased_all (x ∷ l) = ap (λ (b : Bool). eqb x 255 && b) (erased_all l)
 
 -- ---- A slot's first and last byte
+
+-- a part, as std cuts it out
+pub chunk_at : (w n i : ℕ) (a : List ℕ) → i < n → get_or (first_chunks w n a) i [] ≡ take w (drop (i * w) a)
+unfolding parts
+chunk_at w n i a h = ap (λ (l : List (List ℕ)). get_or l i []) (chunks w n a) ∙ parts_at w n i a h
+  where
+    chunks : (w n : ℕ) (a : List ℕ) → first_chunks w n a ≡ parts w n a
+    chunks w zero a = refl
+    chunks w (suc n) a = ap (λ (l : List (List ℕ)). take w a ∷ l) (chunks w n (drop w a))
 
 pub slots_end : (a : List ℕ) → drop 512 (slots a) ≡ []
 slots_end a = let q = slots_length a in drop_of_length-le (slots a) {i = 512} (omega arith)
@@ -187,6 +189,3 @@ module _ (a : List ℕ) (long : length a ≡ 65536) (n : ℕ) (e : n ≡ count a
 
 pub count_le : (a : List ℕ) → count a ≤ 512
 count_le a = let q = slots_length a in let m = count_most (slots a) in omega arith
-
-pub free_le : (a : List ℕ) → free (slots a) ≤ 512
-free_le a = let q = slots_length a in let m = free_most (slots a) in omega arith

@@ -1,7 +1,7 @@
 -- The journal's area: 65,536 bytes, 512 slots of 128. What a slot, a record, a torn record and the
 -- area's shape are; what a cut leaves. Nothing here knows what a record means.
-use Rattle.std.specs.Prelude.{◌≡◌, Bool, true, false, cond, ◌&&◌, not, List, [], ◌∷◌, ◌++◌, ℕ, zero, suc, ◌+◌, ◌-◌, ◌*◌, ◌≤◌, length, take, drop, get_or, set, replicate, eqb, ltb}
-use Rattle.std.proofs.Math.Option.{Option, none, some}
+use Rattle.std.specs.Prelude.{◌≡◌, Bool, true, false, cond, ◌&&◌, not, List, [], ◌∷◌, ◌++◌, ℕ, zero, suc, ◌+◌, ◌-◌, ◌*◌, ◌≤◌, length, take, drop, get_or, set, replicate, eqb, ltb, Option, Some, None, Result, is_ok}
+use Rattle.journal.specs.declared.Full.{Full}
 use Rattle.journal.specs.declared.Survey.{Survey}
 use Rattle.journal.specs.declared.Survey.TheVariants.{Bad, Clean, Torn}
 
@@ -116,10 +116,10 @@ unfoldable pub free : List (List ℕ) → ℕ
 free [] = zero
 free (s ∷ l) = cond (begun s) (suc (free l)) zero
 
--- a record appended to the first slot that begins with 255: yes, and the area with it; no where
--- there is none, and the area stays
-pub record Appends (a rec : List ℕ) (yes : Bool) (y : List ℕ) : Type 0 where
-  pub room : yes ≡ ltb (free (slots a)) 512
+-- a record appended to the first slot that begins with 255: `Ok`, and the area with it; an error
+-- where there is none, and the area stays
+pub record Appends (a rec : List ℕ) (r : Result (Unit {0}) Full) (y : List ℕ) : Type 0 where
+  pub room : is_ok r ≡ ltb (free (slots a)) 512
   pub kept : y ≡ cond (ltb (free (slots a)) 512) (written a (free (slots a)) rec 128) a
 
 -- how many whole records
@@ -153,12 +153,12 @@ pub record Found (a : List ℕ) (l : List (List ℕ)) (b : List ℕ) : Type 0 wh
 
 -- a step is none where the record is not one that would have been written at that state
 abbrev pub after : {A B : Type 0} → Option A → (A → Option B) → Option B
-after none f = none
-after (some s) f = f s
+after None f = None
+after (Some s) f = f s
 
 -- the records' meaning, one after the other
 unfoldable pub replay : {S : Type 0} → (S → List ℕ → Option S) → S → List (List ℕ) → Option S
-replay step s [] = some s
+replay step s [] = Some s
 replay step s (r ∷ l) = after (step s r) (λ t. replay step t l)
 
 -- refused, or the state and the area that restart leaves
@@ -167,8 +167,8 @@ pub data Restarted (S : Type 0) : Type 0 where
   done : S → List ℕ → Restarted S
 
 abbrev pub ending : {S : Type 0} → Option S → List ℕ → Restarted S
-ending none b = refused
-ending (some s) b = done s b
+ending None b = refused
+ending (Some s) b = done s b
 
 unfoldable pub restart : {S : Type 0} → (S → List ℕ → Option S) → S → List ℕ → Restarted S
 restart step image a = cond (shape (slots a)) (ending (replay step image (records (slots a))) (mended a)) refused

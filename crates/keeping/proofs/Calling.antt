@@ -1,21 +1,22 @@
 -- The ways out of a journaled call, and that each allows one result only. Assumes nothing.
-use mathlib.Core.Path.{◌≡◌, sym, ap, ◌∙◌}
-use mathlib.Core.Bool.{Bool, true, false}
+use mathlib.Core.Path.{◌≡◌, refl, sym, ap, ◌∙◌}
+use mathlib.Core.Bool.{true, false}
 use mathlib.Core.List.{List}
 use mathlib.Core.Logic.{◌≢◌}
-use Prim.Native.Nat.{ℕ}
+use Prim.Native.Nat.{ℕ, ◌<◌}
 use native.Mathlib.Omega.{arith}
 use lib.ListN.{length, replicate}
 use borrow.Author.Tests.{eq-eqb, ne_eqb, lt-ltb, le-ltb}
+use Rattle.std.specs.Prelude.{Result, is_ok}
 use Rattle.rules.specs.declared.Answer.{Answer}
 use Rattle.rules.specs.Calls.{answer}
 use Rattle.rules.specs.Rules.{refused, ruling}
 use Rattle.buffer.specs.Layout.{view}
 use Rattle.buffer.specs.Good.{good}
 use Rattle.clock.specs.Call.{Says}
-use Rattle.clock.proofs.Saying.{answer_is}
+use Rattle.clock.proofs.Saying.{answer_is, says_bad}
+use Rattle.journal.specs.declared.Full.{Full}
 use Rattle.journal.specs.Area.{AREA, SLOTS, slots, free, written, Appends}
-use Rattle.journal.proofs.Reading.{free_le}
 use Rattle.records.specs.Records.{Noted, call_of, encoded}
 use Rattle.keeping.specs.Keeping.{answer_at, sized, roomy, appends, journal_answer, Journals, JournalsLine, EraseSays, next_of}
 
@@ -53,19 +54,23 @@ module _ (b a : List ℕ) (n : Noted) where
         let g : refused (answer_at b n) ≡ true = ap refused (sym e) ∙ h in
         record { answered = e ∙ rw (is_sized, g); left = rw (is_sized, g); kept = rw (is_sized, g) }
 
+    -- a bad buffer is what it refuses first
+    pub journal_bad : good b ≡ false → Journals b a n (answer 1 0) b a
+    journal_bad g = journal_refused (answer 1 0) (says_bad b (call_of n) g).answered refl
+
     -- what it would not refuse: with room in the journal, and without
     module _ (r : Answer) (e : r ≡ answer_at b n) (h : refused r ≡ false) where
       goes : refused (answer_at b n) ≡ false
       goes = ap refused (sym e) ∙ h
 
-      module _ (y : List ℕ) (k : Bool) (w : Appends a (encoded n r) k y) where
-        pub journal_full : k ≡ false → Journals b a n (answer 6 0) b y
+      module _ (y : List ℕ) (k : Result (Unit {0}) Full) (w : Appends a (encoded n r) k y) where
+        pub journal_full : is_ok k ≡ false → Journals b a n (answer 6 0) b y
         unfolding appends journal_answer
         journal_full f =
             let g : roomy a ≡ false = sym w.room ∙ f in
             record { answered = rw (is_sized, goes, g); left = rw (is_sized, goes, g); kept = w.kept ∙ rw (is_sized, goes, g) }
 
-        pub journal_done : k ≡ true → (q : Answer) (x : List ℕ) → Says b (call_of n) q x → Journals b a n q x y
+        pub journal_done : is_ok k ≡ true → (q : Answer) (x : List ℕ) → Says b (call_of n) q x → Journals b a n q x y
         unfolding appends journal_answer
         journal_done f q x s =
             let g : roomy a ≡ true = sym w.room ∙ f in
@@ -77,25 +82,14 @@ module _ (b a : List ℕ) (n : Noted) where
 
 -- ---- The area by itself
 
-module _ (a : List ℕ) where
-  pub erase_short : length a ≢ AREA → EraseSays a (answer 1 0) a
-  erase_short h = let e = ne_eqb (length a) AREA h in record { answered = rw e; kept = rw e }
+module _ (a : List ℕ) (long : length a ≡ AREA) where
+  pub erase_done : (y : List ℕ) → y ≡ replicate (length a) 255 → EraseSays a (answer 0 0) y
+  erase_done y e = let f = eq-eqb (length a) AREA long in record { answered = rw f; kept = e ∙ rw (f, long) }
 
-  pub next_short : length a ≢ AREA → answer 1 0 ≡ next_of a
+  pub next_none : free (slots a) ≡ SLOTS → answer 6 0 ≡ next_of a
   unfolding next_of
-  next_short h = rw (ne_eqb (length a) AREA h)
+  next_none h = rw (eq-eqb (length a) AREA long, le-ltb (free (slots a)) SLOTS (omega (arith, h)))
 
-  module _ (long : length a ≡ AREA) where
-    pub erase_done : (y : List ℕ) → y ≡ replicate (length a) 255 → EraseSays a (answer 0 0) y
-    erase_done y e = let f = eq-eqb (length a) AREA long in record { answered = rw f; kept = e ∙ rw (f, long) }
-
-    module _ (i : ℕ) (e : i ≡ free (slots a)) where
-      pub next_none : i ≡ SLOTS → answer 6 0 ≡ next_of a
-      unfolding next_of
-      next_none h = rw (eq-eqb (length a) AREA long, le-ltb (free (slots a)) SLOTS (omega arith))
-
-      pub next_some : i ≢ SLOTS → answer 0 i ≡ next_of a
-      unfolding next_of
-      next_some h =
-          let m = free_le a in
-          rw (eq-eqb (length a) AREA long, lt-ltb (free (slots a)) SLOTS (omega arith), ← e)
+  pub next_some : (i : ℕ) → i ≡ free (slots a) → i < SLOTS → answer 0 i ≡ next_of a
+  unfolding next_of
+  next_some i e h = rw (eq-eqb (length a) AREA long, lt-ltb (free (slots a)) SLOTS (rw e at h), ← e)

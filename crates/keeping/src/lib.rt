@@ -1,85 +1,69 @@
 // Requests, outcomes and the clock call with a journal: checked and decided by reading alone, then
 // appended with their answer, then carried out, then answered. The area of the journal is lent
 // after the state. A refusal changes nothing, nor does 6, where the journal is full.
-#![tactic(auto)]
+#![tactic(auto, unfolding(calls::specs::Letters::how_many, calls::specs::Letters::event_of))]
 
-ghost use Rattle.std.specs.Prelude.{◌≡◌, true, ◌≤◌, length, get_or};
+ghost use Rattle.std.specs.Prelude.{◌≡◌, true};
 ghost use Rattle.rules.specs.declared.Event.TheVariants.{Ask as ask, Outcome as outcome, Dropped as dropped, Tick as tick};
 ghost use Rattle.rules.specs.declared.Outcome.TheVariants.{Granted as granted, Silent as silent, Rejected as rejected};
-ghost use Rattle.buffer.specs.Places.{SIZE};
+ghost use Rattle.refusals.specs.Refusals.{told};
 ghost use Rattle.buffer.specs.Good.{good};
-ghost use Rattle.journal.specs.Area.{AREA, Appends};
-ghost use Rattle.calls.specs.Letters.{how_many, event_of};
+ghost use Rattle.journal.specs.Area.{Appends};
+ghost use Rattle.calls.specs.Written.{when, what};
 ghost use Rattle.records.specs.Records.{times, encoded};
 ghost use Rattle.keeping.specs.Keeping.{Journals, EraseSays, next_of};
 
+use buffer::places::Buffer;
+use calls::Call;
+use journal::{AREA, Full};
+use refusals::{DONE, Refusal};
 use rules::Answer;
 
-// Appends the timed call of a letter and its numbers, with its answer. False where there is no
-// room.
-fn keep(area: &mut [u8], x: u8, v: &[u32], a: Answer) -> bool
-    requires area_len { length area.old ≡ AREA }
-    requires v_len { (length v.now ≡ how_many x) × (1 ≤ length v.now) }
-    ensures { Appends area.old (encoded (times (get_or v.now 0 0) (event_of x v.now)) a) result area.new }
+// Appends a timed call, with its answer.
+#[tactic(auto, using(records::proofs::Records::spelled, calls::proofs::Letters::many_few))]
+fn keep(area: &mut [u8; AREA], call: Call, a: Answer) -> Result<(), Full>
+    ensures { Appends area.old (encoded (times (when call.entry) (what call.entry)) a) result area.new }
 {
-    let mut rec = [0u8; 128];
-    records::spell(x, v, a, &mut rec);
-    journal::append(area, &rec)
+    journal::append(area, &records::spell(call.letter, call.numbers, a))
 }
 
-// The timed call of a letter and its numbers, on a good state and an area of its length.
-fn journaled_in(state: &mut [u32], area: &mut [u8], x: u8, v: &[u32]) -> Answer
-    requires state_len { length state.old ≡ SIZE }
-    requires state_value { good state.old ≡ true }
-    requires area_len { length area.old ≡ AREA }
-    requires v_len { (length v.now ≡ how_many x) × (1 ≤ length v.now) }
-    ensures { Journals state.old area.old (times (get_or v.now 0 0) (event_of x v.now)) result state.new area.new }
+// A timed call, on a good state and an area of its length.
+fn journaled_in(state: &mut Buffer, area: &mut [u8; AREA], call: Call) -> Result<Answer, Refusal>
+    requires { good state.old ≡ true }
+    ensures { Journals state.old area.old (times (when call.entry) (what call.entry)) (told result) state.new area.new }
 {
-    let a = verdicts::verdict(state, v[0], calls::event(x, v));
-    if clock::refused(a.number) {
-        return a;
-    }
-    if !keep(area, x, v, a) {
-        return Answer {
-            number: 6,
-            second: 0,
-        };
-    }
-    events::happen_in(state, v[0], calls::event(x, v))
+    let time = call.time();
+    let e = call.event();
+    let a = verdicts::verdict(state, time, e)?;
+    keep(area, call, a).map_err(|_| Refusal::Full)?;
+    events::happen_in(state, time, e)
 }
 
-// The timed call of a letter and its numbers.
-fn journaled(state: &mut [u32], area: &mut [u8], x: u8, v: &[u32]) -> Answer
-    requires { (length v.now ≡ how_many x) × (1 ≤ length v.now) }
-    ensures { Journals state.old area.old (times (get_or v.now 0 0) (event_of x v.now)) result state.new area.new }
+// A timed call.
+fn journaled(state: &mut [u32], area: &mut [u8], call: Call) -> Answer
+    ensures { Journals state.old area.old (times (when call.entry) (what call.entry)) result state.new area.new }
 {
-    if area.len() != journal::AREA {
-        return Answer {
-            number: 1,
-            second: 0,
-        };
-    }
-    if !inspect::is_good(state) {
-        return Answer {
-            number: 1,
-            second: 0,
-        };
-    }
-    journaled_in(state, area, x, v)
+    let Some(area) = area.as_mut_array() else {
+        return Refusal::Buffer.into();
+    };
+    let Some(state) = inspect::good_mut(state) else {
+        return Refusal::Buffer.into();
+    };
+    refusals::told(journaled_in(state, area, call))
 }
 
 // May request `kind` go to the network at `time`?
 pub fn request(state: &mut [u32], area: &mut [u8], time: u32, kind: u32) -> Answer
     ensures { Journals state.old area.old (times time (ask kind)) result state.new area.new }
 {
-    journaled(state, area, b'Q', &[time, kind])
+    journaled(state, area, Call::new(b'Q', &[time, kind]))
 }
 
 // What was asked of a service was granted.
 pub fn granted(state: &mut [u32], area: &mut [u8], time: u32, service: u32) -> Answer
     ensures { Journals state.old area.old (times time (outcome service granted)) result state.new area.new }
 {
-    journaled(state, area, b'G', &[time, service])
+    journaled(state, area, Call::new(b'G', &[time, service]))
 }
 
 // What was asked of a service was rejected with a cause of a column; `second` says whether a second
@@ -95,66 +79,58 @@ pub fn rejected(
 ) -> Answer
     ensures { Journals state.old area.old (times time (outcome service (rejected cause second column))) result state.new area.new }
 {
-    journaled(state, area, b'J', &[time, service, cause, second, column])
+    journaled(
+        state,
+        area,
+        Call::new(b'J', &[time, service, cause, second, column]),
+    )
 }
 
 // What was asked of a service had no answer.
 pub fn silent(state: &mut [u32], area: &mut [u8], time: u32, service: u32) -> Answer
     ensures { Journals state.old area.old (times time (outcome service silent)) result state.new area.new }
 {
-    journaled(state, area, b'S', &[time, service])
+    journaled(state, area, Call::new(b'S', &[time, service]))
 }
 
 // Service 2, which was up, was dropped.
 pub fn dropped(state: &mut [u32], area: &mut [u8], time: u32) -> Answer
     ensures { Journals state.old area.old (times time dropped) result state.new area.new }
 {
-    journaled(state, area, b'D', &[time])
+    journaled(state, area, Call::new(b'D', &[time]))
 }
 
 // The clock call.
 pub fn tick(state: &mut [u32], area: &mut [u8], time: u32) -> Answer
     ensures { Journals state.old area.old (times time tick) result state.new area.new }
 {
-    journaled(state, area, b'T', &[time])
+    journaled(state, area, Call::new(b'T', &[time]))
 }
 
 // Erases the area: the journal that begins with a new image.
 pub fn erase(area: &mut [u8]) -> Answer
     ensures { EraseSays area.old result area.new }
 {
-    if area.len() != journal::AREA {
-        return Answer {
-            number: 1,
-            second: 0,
-        };
-    }
+    let Some(area) = area.as_mut_array::<AREA>() else {
+        return Refusal::Buffer.into();
+    };
     journal::erase(area);
-    Answer {
-        number: 0,
-        second: 0,
-    }
+    DONE
 }
 
 // The slot that the next append writes, by its number; 6 where none begins with 255.
+#[tactic(auto, using(crate::proofs::Calling::next_none, crate::proofs::Calling::next_some), unfolding(crate::specs::Keeping::next_of))]
 pub fn next(area: &[u8]) -> Answer
     ensures { result ≡ next_of area.now }
 {
-    if area.len() != journal::AREA {
-        return Answer {
-            number: 1,
-            second: 0,
-        };
-    }
-    let slot = journal::first_free(area);
-    if slot == 512 {
-        return Answer {
-            number: 6,
-            second: 0,
-        };
-    }
-    Answer {
-        number: 0,
-        second: slot as u32,
+    let Some(area) = area.as_array() else {
+        return Refusal::Buffer.into();
+    };
+    match journal::first_free(area) {
+        Some(slot) => Answer {
+            number: 0,
+            second: slot as u32,
+        },
+        None => Refusal::Full.into(),
     }
 }

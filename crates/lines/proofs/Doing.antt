@@ -9,66 +9,61 @@ use lib.ListN.{length, get_or, take, drop, replicate}
 use lib.Seq.{drop-drop, take_all}
 use borrow.Author.Tests.{eq-eqb, ne_eqb, le-leb, lt-leb}
 use Rattle.rules.specs.declared.Answer.{Answer}
-use Rattle.rules.specs.Calls.{Call, timed, typed, answer}
+use Rattle.rules.specs.Calls.{Call, timed, typed}
 use Rattle.buffer.specs.Segments.{paste, pad}
-use Rattle.buffer.specs.Good.{good}
 use Rattle.clock.specs.Call.{Says}
-use Rattle.clock.proofs.Saying.{says_bad}
 use Rattle.opening.specs.Open.{Order, OpenSays}
 use Rattle.at.specs.Lines.{read_line}
-use Rattle.lines.specs.declared.Reply.{Reply}
-use Rattle.lines.specs.declared.Reply.TheVariants as R
+use Rattle.std.specs.Prelude.{Option, Some, None}
 use Rattle.rows.specs.declared.Span.{Span}
-use Rattle.lines.specs.declared.House.TheVariants as H
 use Rattle.calls.specs.Letters.{how_many, event_of, letter_a}
 use Rattle.lines.specs.Trace.{Said, opens, calls, wrong, comma, cr, highest, highest_byte, longest, timed_line, typed_line, Ending, ending, no_ending, ending_of, opens_by, open_line, letter_o, by_letter, read_trace, said_by, highest_imsi}
 use Rattle.rows.specs.Rows.{fields, ended, begins, space, field, if_number, if_numbers, if_exactly}
-use Rattle.lines.specs.Held.{ending_by}
 use Rattle.rows.specs.Rows.{row_of}
 use Rattle.lines.specs.Line.{Done, printed, print_of, room_for, LineSays}
 use Rattle.rows.proofs.Reading.{ended_end, ended_not}
 use Rattle.text.specs.Number.{part_of}
 use Rattle.text.specs.declared.Num.{Num}
-use Rattle.text.specs.declared.Num.TheVariants as N
 use Rattle.rows.proofs.Rows.{number_none, number_some, numbers_none, numbers_some, exactly_none, exactly_not, exactly_so}
 use Rattle.lines.proofs.Filing.{filled}
 
 -- ---- Each kind of answer
 
 module _ {b : List ℕ} {w : Said} where
-  pub done_wrong : w ≡ wrong → Done b w R.Wrong b
+  pub done_wrong : w ≡ wrong → Done b w None b
   done_wrong e = rw e (record { gave = refl; left = refl })
 
-  pub done_call : {c : Call} {a : Answer} {x : List ℕ} → w ≡ calls c → Says b c a x → Done b w (R.Numbers a) x
-  done_call {c} e s = rw e (record { gave = ap R.Numbers s.answered; left = s.left })
+  pub done_call : {c : Call} {a : Answer} {x : List ℕ} → w ≡ calls c → Says b c a x → Done b w (Some a) x
+  done_call {c} e s = rw e (record { gave = ap (λ (r : Answer). Some r) s.answered; left = s.left })
 
-  pub done_open : {o : Order} {a : Answer} {x : List ℕ} → w ≡ opens o → OpenSays b o a x → Done b w (R.Numbers a) x
-  done_open e s = rw e (record { gave = ap R.Numbers s.answered; left = s.left })
-
-  pub done_bad : {c : Call} → w ≡ calls c → good b ≡ false → Done b w (R.Numbers (answer 1 0)) b
-  done_bad {c} e g = done_call e (says_bad b c g)
+  pub done_open : {o : Order} {a : Answer} {x : List ℕ} → w ≡ opens o → OpenSays b o a x → Done b w (Some a) x
+  done_open e s = rw e (record { gave = ap (λ (r : Answer). Some r) s.answered; left = s.left })
 
 -- ---- A timed line
 
-module _ (x : ℕ) (line v : List ℕ) (s : Span) (e : row_of line s v ≡ fields space highest 5 (drop 1 line)) (most : s.count ≤ 5) (five : length v ≡ 5) where
-  pub timed_none : s.count ≡ 0 → timed_line x (drop 1 line) ≡ wrong
-  unfolding timed_line
-  timed_none h = exactly_none wrong (how_many x) line v s e (omega arith) (λ n rest. cond (ended rest) (calls (timed (get_or n 0 0) (event_of x n))) wrong) h
+abbrev timed_by : ℕ → List ℕ → List ℕ → Said
+timed_by x n rest = cond (ended rest) (calls (timed (get_or n 0 0) (event_of x n))) wrong
 
-  pub timed_other : s.count ≢ how_many x → timed_line x (drop 1 line) ≡ wrong
+module _ (x : ℕ) (line v : List ℕ) (r : Option Span) (e : row_of line r v ≡ fields space highest 5 (drop 1 line)) where
+  pub timed_none : r ≡ None → timed_line x (drop 1 line) ≡ wrong
   unfolding timed_line
-  timed_other h = exactly_not wrong (how_many x) line v s e (omega arith) (λ n rest. cond (ended rest) (calls (timed (get_or n 0 0) (event_of x n))) wrong) h
+  timed_none h = exactly_none wrong (how_many x) line v r e (timed_by x) h
 
-  module _ (n : s.count ≢ 0) (h : s.count ≡ how_many x) where
-    timed_so : timed_line x (drop 1 line) ≡ cond (ended (drop s.next line)) (calls (timed (get_or (take s.count v) 0 0) (event_of x (take s.count v)))) wrong
+  module _ (s : Span) (h : r ≡ Some s) (few : s.count ≤ length v) where
+    pub timed_other : s.count ≢ how_many x → timed_line x (drop 1 line) ≡ wrong
     unfolding timed_line
-    timed_so = exactly_so wrong (how_many x) line v s e (omega arith) (λ n rest. cond (ended rest) (calls (timed (get_or n 0 0) (event_of x n))) wrong) n h
+    timed_other n = exactly_not wrong (how_many x) line v r e (timed_by x) s h few n
 
-    pub timed_more : s.next < length line → timed_line x (drop 1 line) ≡ wrong
-    timed_more p = timed_so ∙ rw (ended_not line s.next p)
+    module _ (n : s.count ≡ how_many x) where
+      timed_so : timed_line x (drop 1 line) ≡ timed_by x (take s.count v) (drop s.next line)
+      unfolding timed_line
+      timed_so = exactly_so wrong (how_many x) line v r e (timed_by x) s h few n
 
-    pub timed_all : length line ≤ s.next → timed_line x (drop 1 line) ≡ calls (timed (get_or (take s.count v) 0 0) (event_of x (take s.count v)))
-    timed_all p = timed_so ∙ rw (ended_end line s.next p)
+      pub timed_more : s.next < length line → timed_line x (drop 1 line) ≡ wrong
+      timed_more p = timed_so ∙ rw (ended_not line s.next p)
+
+      pub timed_all : length line ≤ s.next → timed_line x (drop 1 line) ≡ calls (timed (get_or (take s.count v) 0 0) (event_of x (take s.count v)))
+      timed_all p = timed_so ∙ rw (ended_end line s.next p)
 
 -- ---- An AT line
 
@@ -86,75 +81,88 @@ module _ (line : List ℕ) where
 abbrev housed : List ℕ → List ℕ → List ℕ → List ℕ → Ending
 housed p q n l = cond (ended l) (ending (pad 32 p) (pad 6 q) (get_or n 0 0) (get_or n 1 0)) no_ending
 
-abbrev rated : List ℕ → List ℕ → List ℕ → Ending
+abbrev pub rated : List ℕ → List ℕ → List ℕ → Ending
 rated p q l = if_exactly no_ending 2 (fields space highest 2 l) (housed p q)
 
-abbrev parametered : List ℕ → List ℕ → Ending
+abbrev pub parametered : List ℕ → List ℕ → Ending
 parametered p l = if_exactly no_ending 3 (fields comma highest_byte 3 l) (rated p)
 
-module _ (line p : List ℕ) (i : ℕ) (s : Span) (e : row_of line s p ≡ fields comma highest_byte 6 (drop i line)) (most6 : s.count ≤ 6) (six : length p ≡ 6) where
-  pub no_parameters : s.count ≢ 6 → no_ending ≡ ending_of (drop i line)
+module _ (line p : List ℕ) (i : ℕ) (r : Option Span) (e : row_of line r p ≡ fields comma highest_byte 6 (drop i line)) where
+  pub no_parameters : r ≡ None → no_ending ≡ ending_of (drop i line)
   unfolding ending_of
-  no_parameters h = sym (exactly_not no_ending 6 line p s e (omega arith) parametered h)
+  no_parameters h = sym (exactly_none no_ending 6 line p r e parametered h)
 
-  module _ (h : s.count ≡ 6) (q : List ℕ) (t : Span) (f : row_of line t q ≡ fields comma highest_byte 3 (drop s.next line)) (most3 : t.count ≤ 3) (three : length q ≡ 3) where
-    first : parametered p (drop s.next line) ≡ ending_of (drop i line)
+  module _ (s : Span) (h : r ≡ Some s) (few : s.count ≤ length p) where
+    pub other_parameters : s.count ≢ 6 → no_ending ≡ ending_of (drop i line)
     unfolding ending_of
-    first = sym (exactly_so no_ending 6 line p s e (omega arith) parametered (λ z. omega arith) h ∙ ap (λ (l : List ℕ). parametered l (drop s.next line)) (take_all s.count p (omega arith)))
+    other_parameters n = sym (exactly_not no_ending 6 line p r e parametered s h few n)
 
-    pub no_rates : t.count ≢ 3 → no_ending ≡ ending_of (drop i line)
-    no_rates k = sym (exactly_not no_ending 3 line q t f (omega arith) (rated p) k) ∙ first
+    pub first : s.count ≡ 6 → length p ≡ 6 → parametered p (drop s.next line) ≡ ending_of (drop i line)
+    unfolding ending_of
+    first n k = sym (exactly_so no_ending 6 line p r e parametered s h few n ∙ ap (λ (l : List ℕ). parametered l (drop s.next line)) (take_all s.count p (omega arith)))
 
-    module _ (k : t.count ≡ 3) (n : List ℕ) (u : Span) (g : row_of line u n ≡ fields space highest 2 (drop t.next line)) (most2 : u.count ≤ 2) (two : length n ≡ 2) where
-      second : rated p q (drop t.next line) ≡ ending_of (drop i line)
-      second = sym (exactly_so no_ending 3 line q t f (omega arith) (rated p) (λ z. omega arith) k ∙ ap (λ (l : List ℕ). rated p l (drop t.next line)) (take_all t.count q (omega arith))) ∙ first
+module _ (line p q : List ℕ) (i : ℕ) {x : Ending} (r : Option Span) (e : row_of line r q ≡ fields comma highest_byte 3 (drop i line)) (o : parametered p (drop i line) ≡ x) where
+  pub no_rates : r ≡ None → no_ending ≡ x
+  no_rates h = sym (exactly_none no_ending 3 line q r e (rated p) h) ∙ o
 
-      pub no_house : u.count ≢ 2 → no_ending ≡ ending_of (drop i line)
-      no_house m = sym (exactly_not no_ending 2 line n u g (omega arith) (housed p q) m) ∙ second
+  module _ (s : Span) (h : r ≡ Some s) (few : s.count ≤ length q) where
+    pub other_rates : s.count ≢ 3 → no_ending ≡ x
+    other_rates n = sym (exactly_not no_ending 3 line q r e (rated p) s h few n) ∙ o
 
-      module _ (m : u.count ≡ 2) where
-        third : housed p q n (drop u.next line) ≡ ending_of (drop i line)
-        third = sym (exactly_so no_ending 2 line n u g (omega arith) (housed p q) (λ z. omega arith) m ∙ ap (λ (l : List ℕ). housed p q l (drop u.next line)) (take_all u.count n (omega arith))) ∙ second
+    pub second : s.count ≡ 3 → length q ≡ 3 → rated p q (drop s.next line) ≡ x
+    second n k = sym (exactly_so no_ending 3 line q r e (rated p) s h few n ∙ ap (λ (l : List ℕ). rated p l (drop s.next line)) (take_all s.count q (omega arith))) ∙ o
 
-        pub not_ended : u.next < length line → no_ending ≡ ending_of (drop i line)
-        not_ended o = sym (rw (ended_not line u.next o)) ∙ third
+module _ (line p q n : List ℕ) (i : ℕ) {x : Ending} (r : Option Span) (e : row_of line r n ≡ fields space highest 2 (drop i line)) (o : rated p q (drop i line) ≡ x) where
+  pub no_limits : r ≡ None → no_ending ≡ x
+  no_limits h = sym (exactly_none no_ending 2 line n r e (housed p q) h) ∙ o
 
-        pub ending_all : length line ≤ u.next → (a b : List ℕ) → a ≡ replicate 32 0 → b ≡ replicate 6 0 → ending_by (paste a 0 p) (paste b 0 q) (H.Limits (get_or n 0 0) (get_or n 1 0)) ≡ ending_of (drop i line)
-        ending_all o a b za zb = rw (za, zb, filled 32 p, filled 6 q) (sym (rw (ended_end line u.next o)) ∙ third)
+  module _ (s : Span) (h : r ≡ Some s) (few : s.count ≤ length n) where
+    pub other_limits : s.count ≢ 2 → no_ending ≡ x
+    other_limits m = sym (exactly_not no_ending 2 line n r e (housed p q) s h few m) ∙ o
+
+    module _ (m : s.count ≡ 2) (two : length n ≡ 2) where
+      third : housed p q n (drop s.next line) ≡ x
+      third = sym (exactly_so no_ending 2 line n r e (housed p q) s h few m ∙ ap (λ (l : List ℕ). housed p q l (drop s.next line)) (take_all s.count n (omega arith))) ∙ o
+
+      pub not_ended : s.next < length line → no_ending ≡ x
+      not_ended k = sym (rw (ended_not line s.next k)) ∙ third
+
+      pub ending_all : length line ≤ s.next → ending (paste (replicate 32 0) 0 p) (paste (replicate 6 0) 0 q) (get_or n 0 0) (get_or n 1 0) ≡ x
+      ending_all k = rw (filled 32 p, filled 6 q) (sym (rw (ended_end line s.next k)) ∙ third)
 
 -- ---- An opening
 
 abbrev with_intervals : ℕ → ℕ → List ℕ → List ℕ → Said
 with_intervals t i xs l = opens_by t i xs (ending_of l)
 
-abbrev with_imsi : ℕ → ℕ → List ℕ → Said
+abbrev pub with_imsi : ℕ → ℕ → List ℕ → Said
 with_imsi t i l = if_numbers wrong (fields comma highest 128 l) (with_intervals t i)
 
-abbrev with_time : ℕ → List ℕ → Said
+abbrev pub with_time : ℕ → List ℕ → Said
 with_time t l = if_number wrong (field highest_imsi l) (with_imsi t)
 
-module _ (line : List ℕ) (r : Num) (e : part_of line r ≡ field highest (drop 1 line)) where
-  pub open_no_time : r ≡ N.Nothing → open_line (drop 1 line) ≡ wrong
+module _ (line : List ℕ) (r : Option Num) (e : part_of line r ≡ field highest (drop 1 line)) where
+  pub open_no_time : r ≡ None → open_line (drop 1 line) ≡ wrong
   unfolding open_line
   open_no_time h = number_none wrong line r e with_time h
 
-  module _ (t p : ℕ) (h : r ≡ N.At t p) (r2 : Num) (e2 : part_of line r2 ≡ field highest_imsi (drop p line)) where
-    timed_open : open_line (drop 1 line) ≡ with_time t (drop p line)
-    unfolding open_line
-    timed_open = number_some wrong line r e with_time t p h
+  pub open_time : (t : Num) → r ≡ Some t → open_line (drop 1 line) ≡ with_time t.value (drop t.next line)
+  unfolding open_line
+  open_time t h = number_some wrong line r e with_time t h
 
-    pub open_no_imsi : r2 ≡ N.Nothing → open_line (drop 1 line) ≡ wrong
-    open_no_imsi k = timed_open ∙ number_none wrong line r2 e2 (with_imsi t) k
+module _ (line : List ℕ) (t i : ℕ) {w : Said} (r : Option Num) (e : part_of line r ≡ field highest_imsi (drop i line)) (o : w ≡ with_time t (drop i line)) where
+  pub open_no_imsi : r ≡ None → w ≡ wrong
+  open_no_imsi h = o ∙ number_none wrong line r e (with_imsi t) h
 
-    module _ (i q : ℕ) (k : r2 ≡ N.At i q) (xs : List ℕ) (s : Span) (e3 : row_of line s xs ≡ fields comma highest 128 (drop q line)) where
-      imsi_open : open_line (drop 1 line) ≡ with_imsi t i (drop q line)
-      imsi_open = timed_open ∙ number_some wrong line r2 e2 (with_imsi t) i q k
+  pub open_imsi : (n : Num) → r ≡ Some n → w ≡ with_imsi t n.value (drop n.next line)
+  open_imsi n h = o ∙ number_some wrong line r e (with_imsi t) n h
 
-      pub open_no_intervals : s.count ≡ 0 → open_line (drop 1 line) ≡ wrong
-      open_no_intervals z = imsi_open ∙ numbers_none wrong line xs s e3 (with_intervals t i) z
+module _ (line : List ℕ) (t n i : ℕ) {w : Said} (xs : List ℕ) (r : Option Span) (e : row_of line r xs ≡ fields comma highest 128 (drop i line)) (o : w ≡ with_imsi t n (drop i line)) where
+  pub open_no_intervals : r ≡ None → w ≡ wrong
+  open_no_intervals h = o ∙ numbers_none wrong line xs r e (with_intervals t n) h
 
-      pub open_intervals : s.count ≢ 0 → open_line (drop 1 line) ≡ opens_by t i (take s.count xs) (ending_of (drop s.next line))
-      open_intervals z = imsi_open ∙ numbers_some wrong line xs s e3 (with_intervals t i) z
+  pub open_intervals : (s : Span) → r ≡ Some s → {y : Ending} → y ≡ ending_of (drop s.next line) → w ≡ opens_by t n (take s.count xs) y
+  open_intervals s h k = o ∙ numbers_some wrong line xs r e (with_intervals t n) s h ∙ ap (opens_by t n (take s.count xs)) (sym k)
 
 -- ---- A line by its first byte
 
@@ -197,15 +205,15 @@ module _ (line : List ℕ) where
 -- ---- The answer printed
 
 module _ {b line room : List ℕ} where
-  pub line_done : {r : Reply} {x y : List ℕ} {k : ℕ} → room_for ≤ length room → Done b (said_by line) r x → y ≡ paste room 0 (printed r) → k ≡ length (printed r) → LineSays b line room k x y
+  pub line_done : {r : Option Answer} {x y : List ℕ} {k : ℕ} → room_for ≤ length room → Done b (said_by line) r x → y ≡ paste room 0 (printed r) → k ≡ length (printed r) → LineSays b line room k x y
   unfolding print_of
   line_done {r} h d w n =
       let e = le-leb room_for (length room) h in
       let g = d.gave in
       record {
-        counted = n ∙ (ap (λ (s : Reply). length (printed s)) g ∙ rw e);
+        counted = n ∙ (ap (λ (s : Option Answer). length (printed s)) g ∙ rw e);
         left = d.left ∙ rw e;
-        written = w ∙ (ap (λ (s : Reply). paste room 0 (printed s)) g ∙ rw e);
+        written = w ∙ (ap (λ (s : Option Answer). paste room 0 (printed s)) g ∙ rw e);
       }
 
   pub line_room : length room < room_for → LineSays b line room 0 b room

@@ -1,4 +1,5 @@
--- What answering a line promises allows one result only: so the form for any buffer and the form for a good one agree. Assumes nothing.
+-- What answering a line promises allows one result only: so the form for any buffer and the form
+-- for a good one agree. Assumes nothing.
 use mathlib.Core.Path.{◌≡◌, sym, ◌∙◌}
 use mathlib.Core.List.{List}
 use Prim.Native.Nat.{ℕ}

@@ -1,4 +1,5 @@
--- Document 01's trace: what a line says. A line stands without its LF. Fields are parted by one space, listed numbers by commas. Assumes nothing.
+-- Document 01's trace: what a line says. A line stands without its LF. Fields are parted by one
+-- space, listed numbers by commas. Assumes nothing.
 use Rattle.std.specs.Prelude.{cond, List, [], ◌∷◌, ◌++◌, ℕ, eqb, leb, length, get_or, drop, replicate}
 use Rattle.rules.specs.Calls.{Call, timed, typed}
 use Rattle.buffer.specs.Segments.{pad}
@@ -63,14 +64,14 @@ ending_of l =
     if_exactly no_ending 2 (fields space highest 2 l2) (λ n l3.
     cond (ended l3) (ending (pad 32 p) (pad 6 q) (get_or n 0 0) (get_or n 1 0)) no_ending)))
 
--- the order to open: NFM and RPM 1, counters 0. The line has the card's files; the module's own, which do not rule then, are RTC10's parameters and leak
--- rates of 0
+-- the order to open: NFM and RPM 1, counters 0. The line has the card's files; the module's own,
+-- which do not rule then, are RTC10's parameters and leak rates of 0
 abbrev pub opens_by : (time imsi : ℕ) (intervals : List ℕ) → Ending → Said
 opens_by t i xs no_ending = wrong
 opens_by t i xs (ending p q a s) = opens (order t i xs 1 1 a s p q (replicate 32 0) rtc10 (replicate 6 0))
 
--- O: time, IMSI, intervals, parameters, leak rates, A1, S1. A line of 256 bytes has room for fewer than 128 intervals; more than ten are for the opening
--- to refuse
+-- O: time, IMSI, intervals, parameters, leak rates, A1, S1. A line of 256 bytes has room for fewer
+-- than 128 intervals; more than ten are for the opening to refuse
 unfoldable pub open_line : List ℕ → Said
 open_line l =
     if_number wrong (field highest l) (λ t l1.

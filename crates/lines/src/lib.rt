@@ -1,34 +1,36 @@
-// One trace line in, its answer out. `answer` takes any buffer; `answer_in` is for one that is known to be good, and does not check it. Both
-// promise the same.
+// One trace line in, its answer out. `answer` takes any buffer; `answer_in` is for one that is
+// known to be good, and does not check it. Both promise the same.
 #![tactic(auto)]
 
-ghost use Rattle.std.specs.Prelude.{◌≡◌, true, [], ◌∷◌, ◌++◌, ◌+◌, ◌-◌, ◌≤◌, ◌<◌, length, get_or, take, drop, replicate};
-ghost use Rattle.rules.specs.Calls.{timed};
-ghost use Rattle.buffer.specs.Places.{SIZE};
-ghost use Rattle.buffer.specs.Segments.{paste};
+ghost use Rattle.std.specs.Prelude.{◌≡◌, true, false, [], ◌∷◌, ◌++◌, ◌≤◌, length, take, drop, MatchOption};
+ghost use Rattle.std.specs.Borrow.{sem};
+ghost use Rattle.rules.specs.Calls.{timed, typed};
+ghost use Rattle.at.specs.Lines.{read_line};
+ghost use Rattle.buffer.specs.Segments.{pad, paste};
 ghost use Rattle.buffer.specs.Good.{good};
 ghost use Rattle.clock.specs.Call.{Says};
-ghost use Rattle.calls.specs.Letters.{how_many, event_of};
-ghost use Rattle.lines.specs.Trace.{timed_line, typed_line, ending_of, opens_by, open_line, said_by};
+ghost use Rattle.inspect.specs.Lent.{LendsWhole};
+ghost use Rattle.calls.specs.Written.{when, what};
+ghost use Rattle.lines.specs.Trace.{timed_line, typed_line, ending_of, open_line, said_by};
 ghost use Rattle.lines.specs.Held.{ending_by};
 ghost use Rattle.rows.specs.Rows.{UpTo};
 ghost use Rattle.lines.specs.Line.{Done, printed_two, printed_wrong, LineSays};
 
+use buffer::places::Buffer;
+use calls::Call;
+use refusals::Refusal;
 use rules::Answer;
-use text::Num;
 
-// What a line is answered: two numbers, or ERR.
-#[derive(Clone, Copy)]
-pub enum Reply {
-    Numbers(Answer),
-    Wrong,
-}
+// The highest decimal, but for an IMSI and a file's byte.
+const HIGHEST: u64 = 4294967295;
 
-// A1 and S1.
+// What ends an opening: the parameter file, the leak rate file, A1 and S1.
 #[derive(Clone, Copy)]
-enum House {
-    Limits(u32, u32),
-    Nothing,
+struct Tail {
+    parameters: [u8; 32],
+    rates: [u8; 6],
+    a1: u32,
+    s1: u32,
 }
 
 // The bytes of a file, to its front.
@@ -37,192 +39,164 @@ fn file(v: &[u32], out: &mut [u8])
     requires up_to { UpTo 255 v.now }
     ensures { out.new ≡ paste out.old 0 v.now }
 {
-    let mut i: usize = 0;
-    while i < v.len() {
-        out[i] = v[i] as u8;
-        i += 1;
+    for (i, &x) in v.iter().enumerate() {
+        out[i] = x as u8;
     }
 }
 
-// What ends an opening, from a place on: six parameters and three leak rates, to the two files, and the house limits.
-fn ending(line: &[u8], at: usize, parameters: &mut [u8], rates: &mut [u8]) -> House
-    requires { (parameters.old ≡ replicate 32 0) × (rates.old ≡ replicate 6 0) }
-    ensures { ending_by parameters.new rates.new result ≡ ending_of (drop at line.now) }
+// What ends an opening, from a place on: six parameters and three leak rates, to the two files, and
+// the house limits.
+fn ending(line: &[u8], at: usize) -> Option<Tail>
+    ensures { ending_by result ≡ ending_of (drop at line.now) }
 {
     let mut p = [0u32; 6];
-    let first = rows::fields(line, at, b',', 255, &mut p);
+    let first = rows::fields(line, at, b',', 255, &mut p)?;
     if first.count != 6 {
-        return House::Nothing;
+        return None;
     }
     let mut q = [0u32; 3];
-    let second = rows::fields(line, first.next, b',', 255, &mut q);
+    let second = rows::fields(line, first.next, b',', 255, &mut q)?;
     if second.count != 3 {
-        return House::Nothing;
+        return None;
     }
     let mut h = [0u32; 2];
-    let last = rows::fields(line, second.next, b' ', 4294967295, &mut h);
-    if last.count != 2 {
-        return House::Nothing;
+    let last = rows::fields(line, second.next, b' ', HIGHEST, &mut h)?;
+    if last.count != 2 || last.next < line.len() {
+        return None;
     }
-    if last.next < line.len() {
-        return House::Nothing;
-    }
-    file(&p, parameters);
-    file(&q, rates);
-    House::Limits(h[0], h[1])
-}
-
-// An opening whose time, IMSI and intervals were read. The line has the card's files; the module's own are there, and none of them rules.
-fn open_with(
-    s: &mut [u32],
-    line: &[u8],
-    at: usize,
-    time: u32,
-    imsi: u64,
-    intervals: &[u32],
-) -> Reply
-    ensures { Done s.old (opens_by time imsi intervals.now (ending_of (drop at line.now))) result s.new }
-{
     let mut parameters = [0u8; 32];
+    file(&p, &mut parameters);
     let mut rates = [0u8; 6];
-    let counters = [0u8; 32];
-    let own_parameters = card::RTC10;
-    let own_rates = [0u8; 6];
-    match ending(line, at, &mut parameters, &mut rates) {
-        House::Nothing => Reply::Wrong,
-        House::Limits(a1, s1) => {
-            Reply::Numbers(opening::open(
-                s,
-                time,
-                imsi,
-                intervals,
-                1,
-                1,
-                a1,
-                s1,
-                &parameters,
-                &rates,
-                &counters,
-                &own_parameters,
-                &own_rates,
-            ))
-        }
-    }
+    file(&q, &mut rates);
+    let [a1, s1] = h;
+    Some(Tail {
+        parameters,
+        rates,
+        a1,
+        s1,
+    })
 }
 
-// O: an opening.
-fn open_line(s: &mut [u32], line: &[u8]) -> Reply
+// O: an opening. The line has the card's files; the module's own are there, and none of them rules.
+fn open_line(s: &mut [u32], line: &[u8]) -> Option<Answer>
     ensures { Done s.old (open_line (drop 1 line.now)) result s.new }
 {
-    let Num::At(time, after_time) = rows::field(line, 1, 4294967295) else {
-        return Reply::Wrong;
-    };
-    let Num::At(imsi, after_imsi) = rows::field(line, after_time, 18446744073709551615) else {
-        return Reply::Wrong;
-    };
+    let time = rows::field(line, 1, HIGHEST)?;
+    let imsi = rows::field(line, time.next, u64::MAX)?;
     let mut intervals = [0u32; 128];
-    let read = rows::fields(line, after_imsi, b',', 4294967295, &mut intervals);
-    let count = read.count;
-    if count == 0 {
-        return Reply::Wrong;
-    }
-    open_with(s, line, read.next, time as u32, imsi, &intervals[..count])
+    let read = rows::fields(line, imsi.next, b',', HIGHEST, &mut intervals)?;
+    let tail = ending(line, read.next)?;
+    let counters = [0u8; 32];
+    let own_rates = [0u8; 6];
+    Some(opening::open(
+        s,
+        time.value as u32,
+        imsi.value,
+        &intervals[..read.count],
+        1,
+        1,
+        tail.a1,
+        tail.s1,
+        &tail.parameters,
+        &tail.rates,
+        &counters,
+        &card::RTC10,
+        &own_rates,
+    ))
 }
 
-// A timed call by its letter and its numbers, on a good buffer.
-fn happens(s: &mut [u32], x: u8, v: &[u32]) -> Answer
-    requires s_len { length s.old ≡ SIZE }
-    requires s_value { good s.old ≡ true }
-    requires v_len { (length v.now ≡ how_many x) × (1 ≤ length v.now) }
-    ensures { Says s.old (timed (get_or v.now 0 0) (event_of x v.now)) result s.new }
+// The whole buffer, with its length in its type, where `ok` says that it is good. (An opening takes
+// any buffer, so what is done takes a slice and `ok`, and not an `Option` of a good buffer.)
+fn known(s: &mut [u32], ok: bool) -> Option<&mut Buffer>
+    requires { ok ≡ good s.old }
+    ensures* writes_back { sem 𝓛 (LendsWhole s.entry result) }
+    ensures cases { MatchOption result (good s.old ≡ false) (λ whole. (good s.old ≡ true) × (whole.now ≡ s.old)) }
 {
-    events::happen_in(s, v[0], calls::event(x, v))
+    if !ok {
+        return None;
+    }
+    s.as_mut_array()
+}
+
+// A timed call.
+fn happens(s: &mut [u32], call: Call, ok: bool) -> Answer
+    requires { ok ≡ good s.old }
+    ensures { Says s.old (timed (when call.entry) (what call.entry)) result s.new }
+{
+    match known(s, ok) {
+        Some(state) => refusals::told(events::happen_in(state, call.time(), call.event())),
+        None => Refusal::Buffer.into(),
+    }
 }
 
 // Q, G, S, J, D, T: a timed call. `ok` says whether the buffer is good.
-fn timed_line(s: &mut [u32], line: &[u8], x: u8, ok: bool) -> Reply
+fn timed_line(s: &mut [u32], line: &[u8], x: u8, ok: bool) -> Option<Answer>
     requires { ok ≡ good s.old }
     ensures { Done s.old (timed_line x (drop 1 line.now)) result s.new }
 {
     let mut v = [0u32; 5];
-    let read = rows::fields(line, 1, b' ', 4294967295, &mut v);
-    let count = read.count;
-    if count == 0 {
-        return Reply::Wrong;
+    let read = rows::fields(line, 1, b' ', HIGHEST, &mut v)?;
+    if read.count != calls::how_many(x) || read.next < line.len() {
+        return None;
     }
-    if count != calls::how_many(x) {
-        return Reply::Wrong;
-    }
-    if read.next < line.len() {
-        return Reply::Wrong;
-    }
-    if ok {
-        return Reply::Numbers(happens(s, x, &v[..count]));
-    }
-    Reply::Numbers(Answer {
-        number: 1,
-        second: 0,
-    })
+    Some(happens(s, Call::new(x, &v[..read.count]), ok))
 }
 
 // The rest of an A line and CR, to the front of `out`; how many bytes that is.
-fn closed(line: &[u8], out: &mut [u8]) -> usize
-    requires in_bounds { (2 ≤ length line.now) × (length line.now ≤ 256) }
-    requires out_len { length out.old ≡ 256 }
+fn closed(line: &[u8], out: &mut [u8; 256]) -> usize
+    requires { (2 ≤ length line.now) × (length line.now ≤ 256) }
     ensures { (take result out.new ≡ drop 2 line.now ++ (13 ∷ [])) × (result ≤ 256) }
 {
-    let mut i: usize = 0;
-    while i + 2 < line.len() {
-        out[i] = line[i + 2];
-        i += 1;
+    let rest = &line[2..];
+    let n = rest.len();
+    out[..n].copy_from_slice(rest);
+    out[n] = b'\r';
+    n + 1
+}
+
+// An AT line, of which its name is read.
+fn types(s: &mut [u32], line: &[u8], ok: bool) -> Answer
+    requires { ok ≡ good s.old }
+    ensures { Says s.old (typed (read_line line.now)) result s.new }
+{
+    let mut room = [0u8; 16];
+    match known(s, ok) {
+        Some(state) => refusals::told(command::command_in(state, line, &mut room)),
+        None => Refusal::Buffer.into(),
     }
-    out[i] = 13;
-    i + 1
 }
 
 // A: an AT line.
-fn typed_line(s: &mut [u32], line: &[u8], ok: bool) -> Reply
+fn typed_line(s: &mut [u32], line: &[u8], ok: bool) -> Option<Answer>
     requires ok_value { ok ≡ good s.old }
     requires line_len_bound { length line.now ≤ 256 }
     ensures { Done s.old (typed_line (drop 1 line.now)) result s.new }
 {
-    if rows::begins(line, 1, b' ') {
-        if ok {
-            let mut text = [0u8; 256];
-            let n = closed(line, &mut text);
-            let mut room = [0u8; 16];
-            return Reply::Numbers(command::command_in(s, &text[..n], &mut room));
-        }
-        return Reply::Numbers(Answer {
-            number: 1,
-            second: 0,
-        });
+    if !rows::begins(line, 1, b' ') {
+        return None;
     }
-    Reply::Wrong
+    let mut text = [0u8; 256];
+    let n = closed(line, &mut text);
+    Some(types(s, &text[..n], ok))
 }
 
-// What a line says is done. `ok` says whether the buffer is good.
-fn obey(s: &mut [u32], line: &[u8], ok: bool) -> Reply
+// What a line says is done; `None` where it is ill-formed. `ok` says whether the buffer is good.
+fn obey(s: &mut [u32], line: &[u8], ok: bool) -> Option<Answer>
     requires { ok ≡ good s.old }
     ensures { Done s.old (said_by line.now) result s.new }
 {
     if 256 < line.len() {
-        return Reply::Wrong;
+        return None;
     }
-    if line.len() == 0 {
-        return Reply::Wrong;
+    match *line.first()? {
+        b'O' => open_line(s, line),
+        b'A' => typed_line(s, line, ok),
+        x => timed_line(s, line, x, ok),
     }
-    let x = line[0];
-    if x == b'O' {
-        return open_line(s, line);
-    }
-    if x == b'A' {
-        return typed_line(s, line, ok);
-    }
-    timed_line(s, line, x, ok)
 }
 
-// Two numbers with a space between, and LF.
+// Two numbers with a space between, and LF. The room is a part of one that a caller lends, at least
+// so long, and no array.
 fn two(out: &mut [u8], a: Answer) -> usize
     requires { 22 ≤ length out.old }
     ensures out_after { (out.new ≡ paste out.old 0 (printed_two a)) × (result ≡ length (printed_two a)) }
@@ -236,10 +210,7 @@ pub fn wrong(out: &mut [u8]) -> usize
     requires { 22 ≤ length out.old }
     ensures { (out.new ≡ paste out.old 0 printed_wrong) × (result ≡ 4) }
 {
-    out[0] = b'E';
-    out[1] = b'R';
-    out[2] = b'R';
-    out[3] = b'\n';
+    out[..4].copy_from_slice(b"ERR\n");
     4
 }
 
@@ -251,8 +222,8 @@ fn respond(s: &mut [u32], line: &[u8], out: &mut [u8], ok: bool) -> usize
     ensures upper_bound { result ≤ 22 }
 {
     match obey(s, line, ok) {
-        Reply::Numbers(a) => two(out, a),
-        Reply::Wrong => wrong(out),
+        Some(a) => two(out, a),
+        None => wrong(out),
     }
 }
 
@@ -266,7 +237,8 @@ pub fn answer_in(s: &mut [u32], line: &[u8], out: &mut [u8]) -> usize
     respond(s, line, out, true)
 }
 
-// Answers a line: the bytes are written to the front of the room, which takes at least 22, and counted.
+// Answers a line: the bytes are written to the front of the room, which takes at least 22, and
+// counted.
 pub fn answer(s: &mut [u32], line: &[u8], out: &mut [u8]) -> usize
     ensures line_says { LineSays s.old line.now out.old result s.new out.new }
     ensures upper_bound { result ≤ 22 }

@@ -1,22 +1,21 @@
 -- What a slot holds, from what each test found, and the parts of all slots one after the other.
 -- Assumes nothing.
-use mathlib.Core.Path.{◌≡◌, sym, ap, ◌∙◌, subst}
+use mathlib.Core.Path.{◌≡◌, sym, ap, ◌∙◌}
 use mathlib.Core.Bool.{true, false}
 use mathlib.Core.List.{List, [], ◌∷◌, ◌++◌, append_assoc, append-nil}
-use mathlib.Core.Option.{none, some}
+use Rattle.std.specs.Prelude.{None, Some}
 use Prim.Native.Nat.{ℕ, suc, ◌+◌, ◌-◌, ◌*◌, ◌≤◌, ◌<◌}
 use native.Mathlib.Numerals.{add-one}
 use native.Mathlib.Omega.{arith}
-use lib.ListN.{length, get_or, take, drop, length-append, length-take, length-drop}
-use lib.Seq.{take_at, take-append-add, take-append-le, length-take-le, sets}
+use lib.ListN.{length, get_or, take, drop, length-append}
+use lib.Seq.{length-take-le, sets}
 use Rattle.text.specs.Printed.{print_num}
 use Rattle.text.proofs.Putting.{sets_append}
 use Rattle.image.proofs.Imaging.{front}
 use Rattle.journal.specs.Area.{slot, erased}
 use Rattle.journal.proofs.Reading.{unbegun, does_begin, unclosed, does_close}
 use Rattle.listing.specs.Listing.{line_in}
-use Rattle.listed.specs.Slots.{Held, blank, torn, line, bad, torn_at, held, held_by, size_of, line_for, note_for, told, from}
-use Rattle.listed.specs.declared.Slot.{Slot}
+use Rattle.listed.specs.Slots.{Held, blank, torn, line, bad, torn_at, held, line_for, told, from}
 
 -- ---- A slot
 
@@ -45,21 +44,13 @@ module _ (a : List ℕ) (i : ℕ) where
     held_torn t = rw (e, t)
 
     module _ (t : torn_at a i ≡ false) where
-      pub held_line : (l : List ℕ) → some l ≡ line_in (slot a i) → line l ≡ held a i
+      pub held_line : (l : List ℕ) → Some l ≡ line_in (slot a i) → line l ≡ held a i
       unfolding held
       held_line l s = rw (e, t, ← s)
 
-      pub held_bad : none ≡ line_in (slot a i) → bad ≡ held a i
+      pub held_bad : None ≡ line_in (slot a i) → bad ≡ held a i
       unfolding held
       held_bad s = rw (e, t, ← s)
-
--- of the code's answer that is known to be s
-module _ (r s : Slot) (e : r ≡ s) where
-  pub tells : (out : List ℕ) (g : Held) → held_by r out ≡ g → held_by s out ≡ g
-  tells out g h = sym (ap (λ (k : Slot). held_by k out) e) ∙ h
-
-  pub few : size_of r ≤ 128 → size_of s ≤ 128
-  few h = subst (λ (k : Slot). size_of k ≤ 128) e h
 
 -- ---- All slots
 
@@ -82,24 +73,14 @@ module _ (f : ℕ → List ℕ) (all : List ℕ) (i : ℕ) (out : List ℕ) (at 
   unfolding from
   each_end e = sym (append-nil (take at out)) ∙ (rw e at so)
 
--- ---- A line that was written to a part of the room
+-- ---- A line, or none
 
-pub room_long : (out : List ℕ) (at : ℕ) → at + 128 ≤ length out → length (take (at + 128 - at) (drop at out)) ≡ 128
-room_long out at h = simp (length-take, length-drop) (omega arith)
-
-module _ (out new rest x : List ℕ) (at : ℕ) (lent : x ≡ take at out ++ (new ++ rest)) (fits : at ≤ length out) where
-  pub no_line : (g : Held) → line_for g ≡ [] → take at x ≡ take at out ++ line_for g
-  no_line g e = rw (lent, take_at (take at out) (new ++ rest) at (length-take-le at out fits), e) (sym (append-nil (take at out)))
-
-  pub a_line : (n : ℕ) → n ≤ length new → (g : Held) → line (take n new) ≡ g → take (at + n) x ≡ take at out ++ line_for g
-  a_line n h g e =
-      let k : at + n ≡ length (take at out) + n = omega (arith, length-take-le at out fits) in
-      rw (← e, lent, k, take-append-add (take at out) (new ++ rest) n, take-append-le n new rest h)
+pub a_line : (out room : List ℕ) (at n : ℕ) → n ≤ length room → at + n ≤ length out → (g : Held) → line (take n room) ≡ g → take (at + n) (sets out at (take n room)) ≡ take at out ++ line_for g
+a_line out room at n h k g e =
+    let l : length (take n room) ≡ n = length-take-le n room h in
+    rw (← e) ((λ j. take (at + sym l j) (sets out at (take n room))) ∙ front out at (take n room) (omega arith))
 
 -- ---- A note
-
-pub no_note : (out : List ℕ) (at i : ℕ) (g : Held) → note_for i g ≡ [] → take at out ≡ take at out ++ note_for i g
-no_note out at i g e = rw e (sym (append-nil (take at out)))
 
 pub note_put : (i : ℕ) (end out p q x : List ℕ) (at k r : ℕ) → p ≡ sets out at (115 ∷ 108 ∷ 111 ∷ 116 ∷ 32 ∷ []) → q ≡ sets p (at + 5) (print_num i) → k ≡ at + 5 + length (print_num i)
     → x ≡ sets q k end → r ≡ k + length end → r ≤ length out → take r x ≡ take at out ++ told i end

@@ -1,7 +1,7 @@
 -- What the program prints of an area, slot by slot: the lines of its records, and of what is no
 -- record a note. Assumes nothing.
 use Rattle.std.specs.Prelude.{Bool, cond, ◌&&◌, not, List, [], ◌∷◌, ◌++◌, ℕ, zero, suc, ◌+◌, ◌*◌, take, drop}
-use Rattle.std.proofs.Math.Option.{Option, none, some}
+use Rattle.std.specs.Prelude.{Option, Some, None}
 use Rattle.text.specs.Printed.{print_num}
 use Rattle.journal.specs.Area.{SLOTS, slot, begun, closed, erased}
 use Rattle.listing.specs.Listing.{line_in}
@@ -22,8 +22,8 @@ unfoldable pub torn_at : List ℕ → ℕ → Bool
 torn_at a i = begun (slot a i) && (not (closed (slot a i)) && erased (drop (i * 128 + 128) a))
 
 abbrev pub line_or : Option (List ℕ) → Held
-line_or none = bad
-line_or (some l) = line l
+line_or None = bad
+line_or (Some l) = line l
 
 -- what slot i holds
 unfoldable pub held : List ℕ → ℕ → Held

@@ -1,4 +1,3 @@
 pub mod Printing
 pub mod Reading
-pub mod Taking
 pub mod Written

@@ -41,16 +41,6 @@ pub fields_none : (v : List ℕ) (i : ℕ) → length v ≤ i → fields_of (dro
 unfolding fields_of
 fields_none v i h = ap fields_of (drop_of_length-le v {i = i} h)
 
--- ---- Bytes
-
-pub bytes_next : (l out : List ℕ) (k i : ℕ) → i < length l → sets (set out (k + i) (get_or l i 0)) (k + (i + 1)) (drop (i + 1) l) ≡ sets out (k + i) (drop i l)
-bytes_next l out k i h =
-    let e : k + (i + 1) ≡ suc (k + i) = omega arith in
-    rw (e, add-one i, drop-cons l i 0 h)
-
-pub bytes_end : (l out : List ℕ) (k i : ℕ) → length l ≤ i → sets out (k + i) (drop i l) ≡ out
-bytes_end l out k i h = rw (drop_of_length-le l {i = i} h)
-
 -- ---- A line: its first bytes, the rest of it, its answer
 
 pub line_put : (first body end out p q : List ℕ) (i j r : ℕ) → p ≡ sets (sets out 0 first) i body → i ≡ length first

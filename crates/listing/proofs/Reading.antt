@@ -3,7 +3,7 @@ use mathlib.Core.Path.{◌≡◌, sym, ap, ◌∙◌}
 use mathlib.Core.Bool.{true, false, cond, ◌&&◌, false≢true}
 use mathlib.Core.List.{List, [], ◌∷◌, ◌++◌}
 use mathlib.Core.Logic.{◌≢◌}
-use mathlib.Core.Option.{none, some}
+use Rattle.std.specs.Prelude.{None, Some}
 use Prim.Native.Nat.{ℕ, ◌+◌, ◌-◌, ◌*◌, ◌≤◌, ◌<◌}
 use native.Mathlib.Omega.{arith}
 use lib.ListN.{length, get_or, take, drop, length-take, length-drop}
@@ -19,7 +19,7 @@ use Rattle.listing.specs.Listing.{fields_of, line_of, end_of, listed, answer_fro
 -- ---- A timed call
 
 module _ (r : List ℕ) (other : get_or r 0 0 ≢ letter_a) where
-  pub no_letter : how_many (get_or r 0 0) ≡ 0 → none ≡ line_in r
+  pub no_letter : how_many (get_or r 0 0) ≡ 0 → None ≡ line_in r
   unfolding line_in parsed timed_by
   no_letter h = rw (ne_eqb (get_or r 0 0) letter_a other, eq-eqb (how_many (get_or r 0 0)) 0 h)
 
@@ -27,7 +27,7 @@ module _ (r : List ℕ) (other : get_or r 0 0 ≢ letter_a) where
     sp : Spells (get_or r 0 0) v
     sp = spells (get_or r 0 0) v many begins
 
-    timed_parsed : parsed r ≡ some (times (get_or v 0 0) (event_of (get_or r 0 0) v))
+    timed_parsed : parsed r ≡ Some (times (get_or v 0 0) (event_of (get_or r 0 0) v))
     unfolding parsed timed_by
     timed_parsed = rw (ne_eqb (get_or r 0 0) letter_a other, ne_eqb (how_many (get_or r 0 0)) 0 begins, read)
 
@@ -35,17 +35,17 @@ module _ (r : List ℕ) (other : get_or r 0 0 ≢ letter_a) where
     unfolding listed line_of
     timed_listed = rw (sp.letter, sp.numbers)
 
-    timed_found : line_in r ≡ cond (same (packed (get_or r 0 0) (image_of v) a) r && true) (some (get_or r 0 0 ∷ (fields_of v ++ end_of a))) none
+    timed_found : line_in r ≡ cond (same (packed (get_or r 0 0) (image_of v) a) r && true) (Some (get_or r 0 0 ∷ (fields_of v ++ end_of a))) None
     unfolding line_in
     timed_found =
         let at : answer_from (1 + 4 * length (get_or v 0 0 ∷ arguments_of (event_of (get_or r 0 0) v))) r ≡ a
         = ap (λ (l : List ℕ). answer_from (1 + 4 * length l) r) sp.numbers ∙ sym answers in
         rw (timed_parsed, at, spelled (get_or r 0 0) v many begins a, timed_listed)
 
-    pub timed_some : same (packed (get_or r 0 0) (image_of v) a) r ≡ true → {y : List ℕ} → y ≡ get_or r 0 0 ∷ (fields_of v ++ end_of a) → some y ≡ line_in r
-    timed_some h {y} e = ap some e ∙ sym (timed_found ∙ rw h)
+    pub timed_some : same (packed (get_or r 0 0) (image_of v) a) r ≡ true → {y : List ℕ} → y ≡ get_or r 0 0 ∷ (fields_of v ++ end_of a) → Some y ≡ line_in r
+    timed_some h {y} e = ap Some e ∙ sym (timed_found ∙ rw h)
 
-    pub timed_none : same (packed (get_or r 0 0) (image_of v) a) r ≡ false → none ≡ line_in r
+    pub timed_none : same (packed (get_or r 0 0) (image_of v) a) r ≡ false → None ≡ line_in r
     timed_none h = sym (timed_found ∙ rw h)
 
 -- ---- An AT line
@@ -65,26 +65,26 @@ module _ (r : List ℕ) (n : ℕ) where
   part_long h k = simp (length-take, length-drop) (omega arith)
 
 module _ (r : List ℕ) (first : get_or r 0 0 ≡ letter_a) (n : ℕ) (size : n ≡ get_or (numbers_in 1 r) 0 0) where
-  pub too_long : longest_line < n → none ≡ line_in r
+  pub too_long : longest_line < n → None ≡ line_in r
   unfolding line_in parsed line_by
   too_long h = rw (eq-eqb (get_or r 0 0) letter_a first, ← size, lt-leb n longest_line h)
 
   module _ (few : n ≤ longest_line) (l : List ℕ) (part : l ≡ take n (drop 5 r)) (long : length l ≡ n) (a : Answer) (answers : a ≡ answer_from (5 + n) r) where
-    typed_parsed : parsed r ≡ some (types l)
+    typed_parsed : parsed r ≡ Some (types l)
     unfolding parsed line_by
     typed_parsed = rw (eq-eqb (get_or r 0 0) letter_a first, ← size, le-leb n longest_line few, ← part)
 
-    typed_found : line_in r ≡ cond (same (encoded (types l) a) r && taken (read_line l)) (some (line_of (types l) ++ end_of a)) none
+    typed_found : line_in r ≡ cond (same (encoded (types l) a) r && taken (read_line l)) (Some (line_of (types l) ++ end_of a)) None
     unfolding line_in listed
     typed_found =
         let at : answer_from (5 + length l) r ≡ a = ap (λ (k : ℕ). answer_from (5 + k) r) long ∙ sym answers in
         rw (typed_parsed, at)
 
-    pub typed_some : same (encoded (types l) a) r ≡ true → taken (read_line l) ≡ true → {y : List ℕ} → y ≡ line_of (types l) ++ end_of a → some y ≡ line_in r
-    typed_some h t {y} e = ap some e ∙ sym (typed_found ∙ rw (h, t))
+    pub typed_some : same (encoded (types l) a) r ≡ true → taken (read_line l) ≡ true → {y : List ℕ} → y ≡ line_of (types l) ++ end_of a → Some y ≡ line_in r
+    typed_some h t {y} e = ap Some e ∙ sym (typed_found ∙ rw (h, t))
 
-    pub typed_bad : same (encoded (types l) a) r ≡ true → taken (read_line l) ≡ false → none ≡ line_in r
+    pub typed_bad : same (encoded (types l) a) r ≡ true → taken (read_line l) ≡ false → None ≡ line_in r
     typed_bad h t = sym (typed_found ∙ rw (h, t))
 
-    pub typed_none : same (encoded (types l) a) r ≡ false → none ≡ line_in r
+    pub typed_none : same (encoded (types l) a) r ≡ false → None ≡ line_in r
     typed_none h = sym (typed_found ∙ rw h)

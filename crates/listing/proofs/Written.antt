@@ -2,7 +2,7 @@
 use mathlib.Core.Path.{◌≡◌}
 use mathlib.Core.Bool.{true}
 use mathlib.Core.List.{List, [], ◌∷◌, ◌++◌}
-use mathlib.Core.Option.{some}
+use Rattle.std.specs.Prelude.{Some}
 use Prim.Native.Nat.{ℕ, ◌+◌, ◌-◌, ◌*◌}
 use native.Mathlib.Omega.{arith}
 use lib.ListN.{length, take, drop, replicate, length-append}
@@ -40,6 +40,6 @@ answer_back (types l) a w =
 
 -- The record of a call, with its answer, is printed as the call's line with that answer. Of an AT
 -- line that is so where the gate takes it.
-pub written_printed : (n : Noted) (a : Answer) → Fits n → AnswerFits a → acceptable n ≡ true → line_in (encoded n a) ≡ some (listed n a)
+pub written_printed : (n : Noted) (a : Answer) → Fits n → AnswerFits a → acceptable n ≡ true → line_in (encoded n a) ≡ Some (listed n a)
 unfolding line_in
 written_printed n a f w h = rw (parsed_back n a f, answer_back n a w, same_self (encoded n a), h)

@@ -1,7 +1,7 @@
 -- A record as document 01's trace line of its call, with the two numbers of the answer as last
 -- fields. Assumes nothing.
 use Rattle.std.specs.Prelude.{Bool, true, false, cond, ◌&&◌, List, [], ◌∷◌, ◌++◌, ℕ, ◌+◌, ◌-◌, ◌*◌, length, get_or, take, drop}
-use Rattle.std.proofs.Math.Option.{Option, none, some}
+use Rattle.std.specs.Prelude.{Option, Some, None}
 use Rattle.rules.specs.declared.Answer.{Answer}
 use Rattle.rules.specs.Calls.{Line, query, nfm, nfm_start, intervals, bad, answer}
 use Rattle.text.specs.Printed.{print_num}
@@ -9,8 +9,6 @@ use Rattle.image.specs.Image.{numbers_of}
 use Rattle.at.specs.Lines.{read_line}
 use Rattle.calls.specs.Letters.{letter_a}
 use Rattle.records.specs.Records.{Noted, times, types, letter_of, arguments_of, encoded, parsed, same}
-use Rattle.listing.specs.declared.Line.{Line as Told}
-use Rattle.listing.specs.declared.Line.TheVariants.{Bytes, Nothing}
 
 -- ---- A line
 
@@ -59,11 +57,11 @@ acceptable (types l) = taken (read_line l)
 
 -- the line of the call, where the bytes are its record with the answer that stands there
 abbrev pub line_if : List ℕ → Noted → Option (List ℕ)
-line_if r n = cond (same (encoded n (answer_in n r)) r && acceptable n) (some (listed n (answer_in n r))) none
+line_if r n = cond (same (encoded n (answer_in n r)) r && acceptable n) (Some (listed n (answer_in n r))) None
 
 abbrev pub if_parsed : List ℕ → Option Noted → Option (List ℕ)
-if_parsed r none = none
-if_parsed r (some n) = line_if r n
+if_parsed r None = None
+if_parsed r (Some n) = line_if r n
 
 -- the line of a record; none of what is no record of a call
 unfoldable pub line_in : List ℕ → Option (List ℕ)
@@ -72,10 +70,10 @@ line_in r = if_parsed r (parsed r)
 -- ---- As the code says it
 
 -- so many bytes of the room, or nothing
-abbrev pub said : Told → List ℕ → Option (List ℕ)
-said (Bytes n) out = some (take n out)
-said Nothing out = none
+abbrev pub said : Option ℕ → List ℕ → Option (List ℕ)
+said (Some n) out = Some (take n out)
+said None out = None
 
-abbrev pub size_of : Told → ℕ
-size_of (Bytes n) = n
-size_of Nothing = 0
+abbrev pub size_of : Option ℕ → ℕ
+size_of (Some n) = n
+size_of None = 0

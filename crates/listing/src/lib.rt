@@ -10,15 +10,8 @@ ghost use Rattle.calls.specs.Letters.{letter_a, how_many};
 ghost use Rattle.records.specs.Records.{types, packed, encoded, same, numbers_in};
 ghost use Rattle.listing.specs.Listing.{fields_of, line_of, end_of, answer_from, taken, line_in, said, size_of};
 
-use at::Kind;
+use records::Record;
 use rules::Answer;
-
-// The line of a record: so many bytes, or none.
-#[derive(Clone, Copy)]
-pub enum Line {
-    Bytes(usize),
-    Nothing,
-}
 
 // Writes a space and a number from a place on, and answers the place after it.
 fn field(out: &mut [u8], at: usize, n: u32) -> usize
@@ -37,10 +30,8 @@ fn fields(out: &mut [u8], at: usize, v: &[u32]) -> usize
     ensures upper_bound { result ≤ at + 11 * length v.now }
 {
     let mut next = at;
-    let mut i: usize = 0;
-    while i < v.len() {
-        next = field(out, next, v[i]);
-        i += 1;
+    for &n in v {
+        next = field(out, next, n);
     }
     next
 }
@@ -50,11 +41,7 @@ pub fn bytes(out: &mut [u8], at: usize, line: &[u8])
     requires { at + length line.now ≤ length out.old }
     ensures { out.new ≡ sets out.old at line.now }
 {
-    let mut i: usize = 0;
-    while i < line.len() {
-        out[at + i] = line[i];
-        i += 1;
-    }
+    out[at..at + line.len()].copy_from_slice(line);
 }
 
 // Writes an answer's two numbers, and LF.
@@ -69,9 +56,8 @@ fn ending(out: &mut [u8], at: usize, a: Answer) -> usize
 }
 
 // Writes the line of a letter and its numbers, with the answer.
-fn timed_line(x: u8, v: &[u32], a: Answer, out: &mut [u8]) -> usize
-    requires v_len_bound { length v.now ≤ 5 }
-    requires out_len { length out.old ≡ 128 }
+fn timed_line(x: u8, v: &[u32], a: Answer, out: &mut [u8; 128]) -> usize
+    requires { length v.now ≤ 5 }
     ensures out_after { take result out.new ≡ x ∷ (fields_of v.now ++ end_of a) }
     ensures upper_bound { result ≤ 128 }
 {
@@ -81,9 +67,8 @@ fn timed_line(x: u8, v: &[u32], a: Answer, out: &mut [u8]) -> usize
 }
 
 // Writes the line of an AT line, without its CR, with the answer.
-fn typed_line(line: &[u8], a: Answer, out: &mut [u8]) -> usize
-    requires in_bounds { (1 ≤ length line.now) × (length line.now ≤ 96) }
-    requires out_len { length out.old ≡ 128 }
+fn typed_line(line: &[u8], a: Answer, out: &mut [u8; 128]) -> usize
+    requires { (1 ≤ length line.now) × (length line.now ≤ 96) }
     ensures out_after { take result out.new ≡ line_of (types line.now) ++ end_of a }
     ensures upper_bound { result ≤ 128 }
 {
@@ -95,59 +80,41 @@ fn typed_line(line: &[u8], a: Answer, out: &mut [u8]) -> usize
 }
 
 // The two numbers from a place of a record on.
-fn answer(rec: &[u8], at: usize) -> Answer
-    requires { at + 8 ≤ length rec.now }
+fn answer(rec: &Record, at: usize) -> Answer
+    requires { at + 8 ≤ 128 }
     ensures { result ≡ answer_from at rec.now }
 {
-    let end = at + 8;
-    let mut v = [0u32; 2];
-    image::read(&rec[at..end], &mut v);
-    Answer {
-        number: v[0],
-        second: v[1],
-    }
+    let mut v = [0; 2];
+    image::read(&rec[at..at + 8], &mut v);
+    let [number, second] = v;
+    Answer { number, second }
 }
 
 // Whether the bytes are the record of a letter and its numbers, with that answer.
-fn is_timed(x: u8, v: &[u32], a: Answer, rec: &[u8]) -> bool
-    requires v_len_bound { length v.now ≤ 5 }
-    requires rec_len { length rec.now ≡ 128 }
+fn is_timed(x: u8, v: &[u32], a: Answer, rec: &Record) -> bool
+    requires { length v.now ≤ 5 }
     ensures { result ≡ same (packed x (image_of v.now) a) rec.now }
 {
-    let mut room = [0u8; 128];
-    records::spell(x, v, a, &mut room);
-    records::same(&room, rec)
+    records::same(&records::spell(x, v, a), rec)
 }
 
 // Whether they are that of an AT line.
-fn is_typed(line: &[u8], a: Answer, rec: &[u8]) -> bool
-    requires line_len_bound { length line.now ≤ 96 }
-    requires rec_len { length rec.now ≡ 128 }
+fn is_typed(line: &[u8], a: Answer, rec: &Record) -> bool
+    requires { length line.now ≤ 96 }
     ensures { result ≡ same (encoded (types line.now) a) rec.now }
 {
-    let mut room = [0u8; 128];
-    records::spell_line(line, a, &mut room);
-    records::same(&room, rec)
+    records::same(&records::spell_line(line, a), rec)
 }
 
 // Whether the gate takes an AT line.
 fn takes(line: &[u8]) -> bool
     ensures { result ≡ taken (read_line line.now) }
 {
-    let order = at::read(line);
-    let kind = order.kind;
-    match kind {
-        Kind::Query => true,
-        Kind::Nfm(_) => true,
-        Kind::NfmStart(_, _) => true,
-        Kind::Intervals => true,
-        Kind::Bad => false,
-    }
+    at::read(line).is_some()
 }
 
 // The line of a timed call's record, by way of a room for its numbers.
-fn timed(rec: &[u8], v: &mut [u32], out: &mut [u8]) -> Line
-    requires rec_len { (length rec.now ≡ 128) × (length out.old ≡ 128) }
+fn timed(rec: &Record, v: &mut [u32], out: &mut [u8; 128]) -> Option<usize>
     requires v_len { (length v.old ≡ how_many (get_or rec.now 0 0)) × (how_many (get_or rec.now 0 0) ≢ 0) }
     requires rec_nonzero { get_or rec.now 0 0 ≢ letter_a }
     ensures out_after { said result out.new ≡ line_in rec.now }
@@ -157,46 +124,44 @@ fn timed(rec: &[u8], v: &mut [u32], out: &mut [u8]) -> Line
     records::numbers(rec, v);
     let a = answer(rec, 1 + 4 * v.len());
     if is_timed(x, v, a, rec) {
-        return Line::Bytes(timed_line(x, v, a, out));
+        Some(timed_line(x, v, a, out))
+    } else {
+        None
     }
-    Line::Nothing
 }
 
 // The length of the AT line in a record.
-fn size(rec: &[u8]) -> u32
-    requires { length rec.now ≡ 128 }
+fn size(rec: &Record) -> u32
     ensures { result ≡ get_or (numbers_in 1 rec.now) 0 0 }
 {
-    let mut v = [0u32; 1];
+    let mut v = [0; 1];
     records::numbers(rec, &mut v);
     v[0]
 }
 
 // The line of an AT line's record.
-fn typed(rec: &[u8], out: &mut [u8]) -> Line
-    requires rec_len { (length rec.now ≡ 128) × (length out.old ≡ 128) }
-    requires rec_value { get_or rec.now 0 0 ≡ letter_a }
+fn typed(rec: &Record, out: &mut [u8; 128]) -> Option<usize>
+    requires { get_or rec.now 0 0 ≡ letter_a }
     ensures out_after { said result out.new ≡ line_in rec.now }
     ensures result_bound { size_of result ≤ 128 }
 {
     let n = size(rec) as usize;
     if 96 < n {
-        return Line::Nothing;
+        return None;
     }
     let end = 5 + n;
     let line = &rec[5..end];
     let a = answer(rec, end);
-    if is_typed(line, a, rec) {
-        if takes(line) {
-            return Line::Bytes(typed_line(line, a, out));
-        }
+    if is_typed(line, a, rec) && takes(line) {
+        Some(typed_line(line, a, out))
+    } else {
+        None
     }
-    Line::Nothing
 }
 
-// Writes the line of a record to a room of 128 bytes.
-pub fn print(rec: &[u8], out: &mut [u8]) -> Line
-    requires { (length rec.now ≡ 128) × (length out.old ≡ 128) }
+// Writes the line of a record to a room of 128 bytes, and answers how many bytes it has. What is
+// the record of no call has none.
+pub fn print(rec: &Record, out: &mut [u8; 128]) -> Option<usize>
     ensures out_after { said result out.new ≡ line_in rec.now }
     ensures result_bound { size_of result ≤ 128 }
 {
@@ -206,8 +171,8 @@ pub fn print(rec: &[u8], out: &mut [u8]) -> Line
     }
     let n = calls::how_many(x);
     if n == 0 {
-        return Line::Nothing;
+        return None;
     }
-    let mut v = [0u32; 5];
+    let mut v = [0; 5];
     timed(rec, &mut v[..n], out)
 }

@@ -1,10 +1,12 @@
-// The mixing of request §3: a number of 64 bits in, another out. Different numbers never mix to the same one: proofs/Apart.antt.
+// The mixing of request §3: a number of 64 bits in, another out. Different numbers never mix to the
+// same one: proofs/Apart.antt.
 #![tactic(auto)]
 
 ghost use Rattle.std.specs.Prelude.{◌≡◌, ◌<◌, ◌^◌, min};
 ghost use Rattle.mixing.specs.Mixing.{mixed, drawn};
 
 // x, mixed.
+#[tactic(auto, unfolding(crate::specs::Mixing::mixed))]
 pub fn mix(x: u64) -> u64
     ensures { result ≡ mixed x }
 {
@@ -17,10 +19,7 @@ pub fn mix(x: u64) -> u64
 fn tries(n: u32) -> u64
     ensures { result ≡ min n 15 }
 {
-    if n < 15 {
-        return n as u64;
-    }
-    15
+    u64::from(n.min(15))
 }
 
 // What a card draws with n failures. An IMSI has 15 decimal digits, which 50 bits hold.

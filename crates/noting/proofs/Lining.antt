@@ -3,9 +3,10 @@ use mathlib.Core.Path.{◌≡◌, refl, sym, ap, ◌∙◌}
 use mathlib.Core.Bool.{Bool, true, false, cond, false≢true}
 use mathlib.Core.List.{List}
 use mathlib.Core.Logic.{◌≢◌}
-use Prim.Native.Nat.{ℕ, ◌≤◌, ◌<◌}
+use Prim.Native.Nat.{ℕ, ◌≤◌}
 use lib.ListN.{length}
-use borrow.Author.Tests.{eq-eqb, ne_eqb, le-leb, lt-leb}
+use borrow.Author.Tests.{eq-eqb, ne_eqb, le-leb}
+use Rattle.std.specs.Prelude.{Result, is_ok}
 use Rattle.rules.specs.declared.Answer.{Answer}
 use Rattle.rules.specs.Calls.{answer, typed, Line, nfm, nfm_start, intervals, query, bad}
 use Rattle.rules.specs.Rules.{refused, refusal, verdict, ruling}
@@ -17,6 +18,7 @@ use Rattle.clock.proofs.Saying.{says_bad}
 use Rattle.at.specs.Lines.{read_line}
 use Rattle.at.proofs.RoundTrip.{accepted, read_accepted}
 use Rattle.command.specs.Command.{reply}
+use Rattle.journal.specs.declared.Full.{Full}
 use Rattle.journal.specs.Area.{AREA, Appends}
 use Rattle.records.specs.Records.{types, encoded}
 use Rattle.keeping.specs.Keeping.{answer_at, roomy, appends, Journals, heard, JournalsLine}
@@ -77,9 +79,6 @@ accepted_fits b line h = go (good b) refl
 -- ---- The ways out
 
 module _ (b a line room : List ℕ) where
-  pub line_deaf : length room < 16 → JournalsLine b a line room (answer 1 0) b a room
-  line_deaf h = let e = lt-leb 16 (length room) h in record { answered = rw e; left = rw e; kept = rw e; told = rw e }
-
   module _ (hears : 16 ≤ length room) where
     hearing : heard room ≡ true
     hearing = le-leb 16 (length room) hears
@@ -100,22 +99,26 @@ module _ (b a line room : List ℕ) where
           let g : refused (answer_at b (types line)) ≡ true = ap refused (sym e) ∙ h in
           lined (journal_refused b a (types line) long r e h) (rw (eq-eqb (length a) AREA long, g))
 
-      module _ (h : refused r ≡ false) (y : List ℕ) (k : Bool) (w : Appends a (encoded (types line) r) k y) where
+      module _ (h : refused r ≡ false) (y : List ℕ) (k : Result (Unit {0}) Full) (w : Appends a (encoded (types line) r) k y) where
         goes : refused (answer_at b (types line)) ≡ false
         goes = ap refused (sym e) ∙ h
 
-        pub line_full : k ≡ false → JournalsLine b a line room (answer 6 0) b y room
+        pub line_full : is_ok k ≡ false → JournalsLine b a line room (answer 6 0) b y room
         unfolding appends
         line_full f =
             let g : roomy a ≡ false = sym w.room ∙ f in
             lined (journal_full b a (types line) long r e h y k w f) (rw (eq-eqb (length a) AREA long, goes, g))
 
-        pub line_done : k ≡ true → (q : Answer) (x z : List ℕ) → Says b (typed (read_line line)) q x
+        pub line_done : is_ok k ≡ true → (q : Answer) (x z : List ℕ) → Says b (typed (read_line line)) q x
             → z ≡ paste room 0 (reply (facts_of b) (read_line line)) → JournalsLine b a line room q x y z
         unfolding appends
         line_done f q x z s t =
             let g : roomy a ≡ true = sym w.room ∙ f in
             lined (journal_done b a (types line) long r e h y k w f q x s) (t ∙ rw (eq-eqb (length a) AREA long, goes, g))
+
+    -- a bad buffer is what it refuses first
+    pub line_bad : length a ≡ AREA → good b ≡ false → JournalsLine b a line room (answer 1 0) b a room
+    line_bad long g = line_refused long (answer 1 0) (says_bad b (typed (read_line line)) g).answered refl
 
 -- with room for the answer, what a line promises is what any journaled call does; without, nothing
 -- has changed

@@ -1,17 +1,17 @@
 -- What opening says in each of its cases, and what its checks tell of what it is given. Assumes nothing.
-use mathlib.Core.Path.{◌≡◌, refl, ◌∙◌}
+use mathlib.Core.Path.{◌≡◌, refl, sym, ◌∙◌}
 use mathlib.Core.Bool.{Bool, true, false, ◌&&◌, and-true}
 use mathlib.Core.List.{List, [], ◌∷◌}
 use Prim.Native.Nat.{ℕ, ◌≤◌}
 use lib.Dec.{leb, eqb, lit<, lit≤}
 use lib.ListN.{length, replicate}
-use borrow.Author.Tests.{leb-true, eqb-true}
+use borrow.Author.Tests.{leb-true, eqb-true, eq-eqb}
 use Rattle.rules.specs.Calls.{answer}
 use Rattle.rules.specs.Tables.{highest_time, ascending, scheduled}
 use Rattle.buffer.specs.Places.{SIZE}
 use Rattle.buffer.specs.Layout.{lay}
 use Rattle.rules.proofs.Checks.{and_left, and_right}
-use Rattle.buffer.proofs.Tests.{both, pick}
+use Rattle.buffer.proofs.Tests.{pick}
 use Rattle.card.specs.Card.{good_or_absent, both_good, six_parameters, three_rates, six_counters}
 use Rattle.card.proofs.Chosen.{part_tells}
 use Rattle.card.proofs.OnePart.{zero_counters_are_file}
@@ -38,16 +38,23 @@ module _ (o : Order) where
   unfolding both_good
   counted = part_tells 32 6 o.counters (replicate 32 0) (lit< tt) (lit≤ tt) ∙ rw zero_counters_are_file (and-true (good_or_absent 32 6 o.counters))
 
-  -- the tests of settings and of files, as the code makes them
-  pub tested : {r : Bool} {p q k : List ℕ} → r ≡ settings (order 0 o.imsi o.intervals o.nfm o.rpm o.A1 o.S1 [] [] [] [] [])
-      → p ≡ P → q ≡ Q → k ≡ K
-      → (r && eqb (length p) 6 && eqb (length q) 3 && eqb (length k) 6) ≡ (settings o && files o)
-  unfolding settings files
-  tested {r} e f g h = rw (f, g, h, six, three, counted) (go r ∙ both e refl)
-    where
-      go : (x : Bool) → (x && both_good 32 6 o.parameters o.own_parameters && both_good 6 3 o.rates o.own_rates && good_or_absent 32 6 o.counters) ≡ (x && files o)
-      go true = refl
-      go false = refl
+  -- the test of files, as the code makes it
+  module _ {p q k : List ℕ} (f : p ≡ P) (g : q ≡ Q) (h : k ≡ K) where
+    measured : (eqb (length p) 6 && eqb (length q) 3 && eqb (length k) 6) ≡ files o
+    unfolding files
+    measured = rw (f, g, h, six, three, counted) refl
+
+    pub good_files : length p ≡ 6 → length q ≡ 3 → length k ≡ 6 → files o ≡ true
+    good_files x y z = sym measured ∙ rw (eq-eqb (length p) 6 x, eq-eqb (length q) 3 y, eq-eqb (length k) 6 z) refl
+
+    pub bad_files : ((length p ≡ 6) × ((length q ≡ 3) × (length k ≡ 6)) → ⊥) → files o ≡ false
+    bad_files none = sym measured ∙ go (eqb (length p) 6) (eqb (length q) 3) (eqb (length k) 6) refl refl refl
+      where
+        go : (x y z : Bool) → eqb (length p) 6 ≡ x → eqb (length q) 3 ≡ y → eqb (length k) 6 ≡ z → (x && y && z) ≡ false
+        go true true true u v w = absurd (none (eqb-true (length p) 6 u, (eqb-true (length q) 3 v, eqb-true (length k) 6 w)))
+        go true true false u v w = refl
+        go true false z u v w = refl
+        go false y z u v w = refl
 
   -- the new buffer, by the parts that the code has
   pub laid : {p q k : List ℕ} → p ≡ P → q ≡ Q → k ≡ K → lay (begun (order o.time o.imsi o.intervals o.nfm o.rpm o.A1 o.S1 [] [] [] [] []) p q k) ≡ lay (given_by o)
@@ -91,20 +98,24 @@ in_order o h =
       counters = eqb-true (length (K o)) 6 (counted o ∙ shape 2);
     }
 
--- the three refusals, and a new buffer
+-- the refusals, and a new buffer
 module _ {b : List ℕ} {o : Order} where
   pub says_length : eqb (length b) SIZE ≡ false → OpenSays b o (answer 1 0) b
   unfolding open_number open_after
   says_length h = record { answered = rw h; left = rw h }
 
-  pub says_range : eqb (length b) SIZE ≡ true → (settings o && files o) ≡ false → OpenSays b o (answer 2 0) b
+  pub says_settings : eqb (length b) SIZE ≡ true → settings o ≡ false → OpenSays b o (answer 2 0) b
   unfolding open_number open_after
-  says_range h e = record { answered = rw (h, e); left = rw (h, e) }
+  says_settings h e = record { answered = rw (h, e); left = rw (h, e) }
 
-  pub says_late : eqb (length b) SIZE ≡ true → (settings o && files o) ≡ true → leb o.time highest_time ≡ false → OpenSays b o (answer 3 0) b
+  pub says_files : eqb (length b) SIZE ≡ true → settings o ≡ true → files o ≡ false → OpenSays b o (answer 2 0) b
   unfolding open_number open_after
-  says_late h e l = record { answered = rw (h, e, l); left = rw (h, e, l) }
+  says_files h d e = record { answered = rw (h, d, e); left = rw (h, d, e) }
 
-  pub says_new : eqb (length b) SIZE ≡ true → (settings o && files o) ≡ true → leb o.time highest_time ≡ true → OpenSays b o (answer 0 0) (lay (given_by o))
+  pub says_late : eqb (length b) SIZE ≡ true → settings o ≡ true → files o ≡ true → leb o.time highest_time ≡ false → OpenSays b o (answer 3 0) b
   unfolding open_number open_after
-  says_new h e l = record { answered = rw (h, e, l); left = rw (h, e, l) }
+  says_late h d e l = record { answered = rw (h, d, e, l); left = rw (h, d, e, l) }
+
+  pub says_new : eqb (length b) SIZE ≡ true → settings o ≡ true → files o ≡ true → leb o.time highest_time ≡ true → OpenSays b o (answer 0 0) (lay (given_by o))
+  unfolding open_number open_after
+  says_new h d e l = record { answered = rw (h, d, e, l); left = rw (h, d, e, l) }

@@ -1,11 +1,13 @@
 -- Numbers stored one after the other, from a place on. Assumes nothing.
-use mathlib.Core.Path.{◌≡◌, refl, ◌∙◌}
-use mathlib.Core.List.{List, [], ◌∷◌, ◌++◌, append_assoc}
-use Prim.Native.Nat.{ℕ, zero, suc, ◌+◌, ◌-◌, ◌≤◌, ◌<◌}
+use mathlib.Core.Path.{◌≡◌, sym, ap, ◌∙◌}
+use mathlib.Core.List.{List, ◌++◌, append_assoc}
+use Prim.Native.Nat.{ℕ, ◌+◌, ◌-◌, ◌≤◌, ◌<◌}
 use native.Mathlib.Omega.{arith}
 use native.Mathlib.Numerals.{add-one}
-use lib.ListN.{length, get_or, take, drop, set, replicate}
-use lib.Seq.{take_all, length-take-le, sets, sets-eq, paste-suc}
+use borrow.Rule.Slice.PartMut.{put_mid, mid_of, take_put}
+use Rattle.std.proofs.lemmas.List.{drop-append-le, drop-replicate}
+use lib.ListN.{length, get_or, take, drop, set, replicate, length-replicate, length-drop}
+use lib.Seq.{length-take-le, sets, sets-eq, paste-suc, drop_at, drop-drop}
 use lib.Seq as seq
 use Rattle.buffer.specs.Segments.{pad, paste}
 use Rattle.buffer.proofs.Laying.{length_pad}
@@ -24,27 +26,18 @@ module _ (b y : List ℕ) (a : ℕ) where
   unfolding paste
   copy_end n h = rw (length-take-le n y h) (append_assoc (take a b) (take n y) (drop (a + n) b))
 
--- a padded list, number by number
-zeros_at : (k i : ℕ) → ◌≡◌ {A = ℕ} (get_or (replicate k 0) i 0) 0
-zeros_at zero i = refl
-zeros_at (suc k) zero = refl
-zeros_at (suc k) (suc i) = zeros_at k i
-
-append_at : (l : List ℕ) (k i : ℕ) → get_or (l ++ replicate k 0) i 0 ≡ get_or l i 0
-append_at [] k i = zeros_at k i
-append_at (x ∷ l) k zero = refl
-append_at (x ∷ l) k (suc i) = append_at l k i
-
-pad_at : (n : ℕ) (l : List ℕ) (i : ℕ) → get_or (pad n l) i 0 ≡ get_or l i 0
-unfolding pad
-pad_at n l i = append_at l (n - length l) i
-
--- a turn of the loop that copies a list and then zeros, and its end
-module _ (b l : List ℕ) (a n : ℕ) (fits : a + n ≤ length b) (few : length l ≤ n) where
-  pub pad_next : (i : ℕ) → i < n → set (seq.paste b a (pad n l) i) (a + i) (get_or l i 0) ≡ seq.paste b a (pad n l) (i + 1)
-  pad_next i h = rw (← pad_at n l i) (copy_next b (pad n l) a i (omega arith) (omega (arith, length_pad n l few)))
-
-  pub pad_end : seq.paste b a (pad n l) n ≡ paste b a (pad n l)
-  pad_end =
-      let e = length_pad n l few in
-      copy_end b (pad n l) a n (omega arith) ∙ rw (take_all n (pad n l) (omega arith))
+-- n places from a on that are filled with zeros, and then a list copied to the first of them
+pub padded : (b l : List ℕ) (a n : ℕ) → a + n ≤ length b → length l ≤ n → {z : List ℕ} → z ≡ replicate (length (mid_of a n b)) 0
+    → put_mid a (a + length l - a) (put_mid a n b z) l ≡ paste b a (pad n l)
+unfolding paste pad
+padded b l a n fits few {z} k =
+    let e : z ≡ replicate n 0 = k ∙ ap (λ (i : ℕ). replicate i 0) (length-take-le n (drop a b) (omega (arith, length-drop a b))) in
+    let m = length l in
+    let c = replicate n 0 ++ drop n (drop a b) in
+    let before : take a (take a b ++ c) ≡ take a b = take_put a n b (replicate n 0) (omega arith) in
+    let at : drop a (take a b ++ c) ≡ c = drop_at (take a b) c a (length-take-le a b (omega arith)) in
+    let after : drop m c ≡ replicate (n - m) 0 ++ drop n (drop a b) = drop-append-le m (replicate n 0) (drop n (drop a b)) (omega (arith, length-replicate {A = ℕ} n 0)) ∙ ap (λ (x : List ℕ). x ++ drop n (drop a b)) (drop-replicate m n 0) in
+    let tail : drop n (drop a b) ≡ drop (a + length (pad n l)) b = drop-drop n a b ∙ ap (λ (k : ℕ). drop (a + k) b) (sym (length_pad n l few)) in
+    let k : a + m - a ≡ m = omega arith in
+    rw (k, e, before, at, after)
+    (ap (λ (x : List ℕ). take a b ++ x) (sym (append_assoc l (replicate (n - m) 0) (drop n (drop a b))) ∙ ap (λ (x : List ℕ). pad n l ++ x) tail))

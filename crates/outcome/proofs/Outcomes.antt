@@ -3,6 +3,8 @@ use mathlib.Core.Path.{◌≡◌, refl, sym, ap, ◌∙◌}
 use mathlib.Core.Bool.{Bool, true, false, cond, ◌&&◌}
 use mathlib.Core.List.{List, [], ◌∷◌}
 use Prim.Native.Nat.{ℕ, zero, suc, ◌+◌, ◌≤◌, ◌<◌}
+use Rattle.std.specs.Prelude.{Result}
+use Rattle.std.specs.Result.{IsErrAnd}
 use native.Mathlib.Omega.{arith}
 use lib.Dec.{lit<, leb, eqb}
 use lib.ListN.{length, get_or, set, length-set}
@@ -14,17 +16,26 @@ use Rattle.rules.specs.declared.Event.TheVariants.{Outcome as outcome, Dropped a
 use Rattle.rules.specs.declared.Outcome.TheVariants.{Granted as granted, Silent as silent, Rejected as rejected}
 use Rattle.rules.specs.Causes.{action, both, reaches}
 use Rattle.rules.specs.Tables.{highest_time, Kind, refusals, mood_on, one_more, four}
-use Rattle.rules.specs.Rules.{check, in_range, timely, stands, refusal, wait, failed, verdict, refused, moved, on_granted, on_failed, on_outcome, due_on, acted, changed, enters, adds}
+use Rattle.rules.specs.Rules.{check, standing, in_range, timely, stands, refusal, wait, failed, verdict, refused, moved, on_granted, on_failed, on_outcome, due_on, acted, changed, enters, adds}
 use Rattle.rules.specs.State.{Facts, Services, with_services, with_due}
 use Rattle.rules.proofs.Among.{not_among}
 use Rattle.rules.proofs.Checks.{is_in_range, in_time, action_low}
+use Rattle.refusals.specs.declared.Refusal.{Refusal}
+use Rattle.refusals.specs.Refusals.{number_of, told as answered}
+use Rattle.std.specs.Prelude.{is_some, Option, Some, None}
+use Rattle.std.specs.Option.{ok_or}
+use Rattle.refusals.specs.declared.Refusal.TheVariants.{Standing}
+use Rattle.refusals.specs.Refusals.{check_of}
+use Rattle.std.specs.Bool.{then_some}
+use Rattle.services.specs.declared.Service.{Service}
+use Rattle.refusals.proofs.Found.{never_zero, passed_on}
 use Rattle.buffer.specs.Places.{STANDING, MOOD, DUE}
 use Rattle.buffer.specs.Layout.{spread, rows, facts_of, view}
 use Rattle.buffer.specs.Good.{good}
 use Rattle.buffer.proofs.Segments.{part_at}
 use Rattle.buffer.proofs.Laid.{Laid, laid_good, laid_as, laid_standing, laid_mood, laid_due}
 use Rattle.clock.specs.Call.{Says}
-use Rattle.clock.proofs.Saying.{says_good, rules_on, moves}
+use Rattle.clock.proofs.Saying.{says_good, says_number, rules_on, moves}
 use Rattle.clock.proofs.Leaking.{laid_moved}
 use Rattle.backoff.specs.Backoffs.{clear, stored, backed}
 use Rattle.backoff.proofs.Backoffs.{laid_stored, laid_backed}
@@ -161,13 +172,30 @@ failed_low f i n h = go (eqb n 20) (eqb f.mode.nfm 1)
 
 -- ---- The calls
 
+-- the checks of an outcome, where `asked` is whether its service stands at 1
+pub checks_are : (f : Facts) (t : ℕ) (range : Bool) (i : ℕ) {n : ℕ} {time asked : Bool} → n ≡ check range 2 (check time 3 (check asked 4 0))
+    → time ≡ timely f t → asked ≡ eqb (standing f i) 1 → n ≡ checked f t range i
+checks_are f t range i e p q = e ∙ (λ j. check range 2 (check (p j) 3 (check (q j) 4 0)))
+
+-- where no check fails, there is a service
+pub found_passes : (asked : Option Service) (range time : Bool) → 0 ≡ check range 2 (check time 3 (check (is_some asked) 4 0)) → check_of (ok_or asked Standing) ≡ 0
+found_passes (Some service) range time e = refl
+found_passes None true true e = absurd (omega (arith, e))
+found_passes None true false e = absurd (omega (arith, e))
+found_passes None false time e = absurd (omega (arith, e))
+
+-- a service is found just where the test passes
+pub then_asked : (x : Bool) (service : Service) → is_some (then_some x service) ≡ x
+then_asked true service = refl
+then_asked false service = refl
+
 pub low : (i : ℕ) → leb i 3 ≡ true → i < 4
 low i h = omega (arith, leb-true i 3 h)
 
-pub dropped_refusal : (b : List ℕ) (t n : ℕ) {u : Bool} {v : ℕ} → n ≡ check true 2 (check u 3 (check (eqb v 2) 4 0))
-    → u ≡ timely (facts_of b) t → v ≡ get_or b (STANDING + 2) 0 → n ≡ refusal (facts_of b) (timed t dropped)
+pub dropped_refusal : (b : List ℕ) (t n : ℕ) {u : Bool} → n ≡ check true 2 (check u 3 (check (eqb (get_or b (STANDING + 2) 0) 2) 4 0))
+    → u ≡ timely (facts_of b) t → n ≡ refusal (facts_of b) (timed t dropped)
 unfolding refusal in_range stands facts_of
-dropped_refusal b t n d p q = d ∙ (λ j. check true 2 (check (p j) 3 (check (eqb ((q ∙ sym (part_at b STANDING 4 2 (lit< tt))) j) 2) 4 0)))
+dropped_refusal b t n d p = d ∙ (λ j. check true 2 (check (p j) 3 (check (eqb (sym (part_at b STANDING 4 2 (lit< tt)) j) 2) 4 0)))
 
 -- the checks of a rejection, where `range` is whether its numbers are in range
 pub rejected_refusal : (b : List ℕ) (t n i cause second column : ℕ) {range : Bool} → n ≡ checked (facts_of b) t range i
@@ -175,48 +203,57 @@ pub rejected_refusal : (b : List ℕ) (t n i cause second column : ℕ) {range :
 unfolding refusal stands
 rejected_refusal b t n i cause second column d r = d ∙ ap (λ (x : Bool). checked (facts_of b) t x i) r
 
+-- what a failure is answered is no refusal
+pub failed_goes_on : (f : Facts) (i n : ℕ) → 20 ≤ n → {a : Answer} → a ≡ failed f i n → refused a ≡ false
+failed_goes_on f i n h e = rw e (failed_low f i n h)
+
+-- a call that a check refuses says so, and is left
+pub says_why : (b : List ℕ) → good b ≡ true → (t : ℕ) (e : Event) (r : Result Answer Refusal) (why : Refusal) → IsErrAnd r (λ y. y ≡ why) → number_of why ≡ refusal (facts_of b) (timed t e)
+    → Says b (timed t e) (answered r) b
+says_why b g t e r why p d = rw (passed_on r why p) (says_number b g t e (number_of why) d (never_zero why))
+
 -- a call that no check refuses
-module _ (b : List ℕ) (t : ℕ) (e : Event) (n : ℕ) (d : n ≡ refusal (facts_of b) (timed t e)) (z : n ≡ 0) where
+module _ (b : List ℕ) (t : ℕ) (e : Event) (z : refusal (facts_of b) (timed t e) ≡ 0) where
   pub passed_range : in_range e ≡ true
-  passed_range = is_in_range (facts_of b) t e (sym d ∙ z)
+  passed_range = is_in_range (facts_of b) t e z
 
   pub passed_time : t ≤ highest_time
-  passed_time = in_time (facts_of b) t e (sym d ∙ z)
+  passed_time = in_time (facts_of b) t e z
 
   -- it says its verdict and what the event does, where it adds to no list
   says_event : good b ≡ true → (a : Answer) → verdict (view b) (timed t e) ≡ a → refused a ≡ false → ((k : Kind) → adds k (timed t e) a ≡ [])
       → {x : List ℕ} → x ≡ spread (acted t e a (moved t (facts_of b))) (rows (view b).lists) → Says b (timed t e) a x
   unfolding changed
   says_event g a v r none p =
-      let rules = rules_on b g t e n d z ∙ v in
+      let rules = rules_on b g t e (refusal (facts_of b) (timed t e)) refl z ∙ v in
       says_good b g (timed t e) a rules (p ∙ sym (moves b g (timed t e) a rules r none))
 
-module _ (b : List ℕ) (g : good b ≡ true) (t n : ℕ) (z : n ≡ 0) where
-  pub says_granted : (i : ℕ) → n ≡ refusal (facts_of b) (timed t (outcome i granted)) → {x : List ℕ} → x ≡ served b t (on_granted i (facts_of b).services)
+module _ (b : List ℕ) (g : good b ≡ true) (t : ℕ) where
+  pub says_granted : (i : ℕ) → refusal (facts_of b) (timed t (outcome i granted)) ≡ 0 → {x : List ℕ} → x ≡ served b t (on_granted i (facts_of b).services)
       → Says b (timed t (outcome i granted)) (answer 0 0) x
   unfolding verdict moved acted on_outcome due_on adds enters
-  says_granted i d p = says_event b t (outcome i granted) n d z g (answer 0 0) refl refl (λ k. refl) p
+  says_granted i z p = says_event b t (outcome i granted) z g (answer 0 0) refl refl (λ k. refl) p
 
-  pub says_dropped : n ≡ refusal (facts_of b) (timed t dropped) → {x y : List ℕ} → x ≡ spread (moved t (facts_of b)) (rows (view b).lists)
+  pub says_dropped : refusal (facts_of b) (timed t dropped) ≡ 0 → {x y : List ℕ} → x ≡ spread (moved t (facts_of b)) (rows (view b).lists)
       → y ≡ set x (STANDING + 2) 0 → Says b (timed t dropped) (answer 0 0) y
   unfolding verdict moved acted on_outcome adds enters
-  says_dropped d p q =
-      says_event b t dropped n d z g (answer 0 0) refl refl (λ k. refl)
+  says_dropped z p q =
+      says_event b t dropped z g (answer 0 0) refl refl (λ k. refl)
       (laid_as (laid_standing (laid_moved b g t p) 2 0 (lit< tt)) q).is
 
-  pub says_silent : (i : ℕ) → n ≡ refusal (facts_of b) (timed t (outcome i silent)) → {a : Answer} {x : List ℕ} → a ≡ failed (facts_of b) i 20
+  pub says_silent : (i : ℕ) → refusal (facts_of b) (timed t (outcome i silent)) ≡ 0 → {a : Answer} {x : List ℕ} → a ≡ failed (facts_of b) i 20
       → x ≡ served b t (on_failed t i (eqb a.number 20) false 1 (facts_of b)) → Says b (timed t (outcome i silent)) a x
   unfolding verdict moved acted on_outcome on_failed due_on wait adds enters
-  says_silent i d {a} e p =
-      says_event b t (outcome i silent) n d z g a (sym e) (rw e (failed_low (facts_of b) i 20 (omega arith))) (λ k. refl) p
+  says_silent i z {a} e p =
+      says_event b t (outcome i silent) z g a (sym e) (rw e (failed_low (facts_of b) i 20 (omega arith))) (λ k. refl) p
 
-  pub says_rejected : (i cause second column : ℕ) → n ≡ refusal (facts_of b) (timed t (outcome i (rejected cause second column))) → {u : ℕ} {a : Answer} {x y : List ℕ}
+  pub says_rejected : (i cause second column : ℕ) → refusal (facts_of b) (timed t (outcome i (rejected cause second column))) ≡ 0 → {u : ℕ} {a : Answer} {x y : List ℕ}
       → u ≡ due_on t (rejected cause 0 column) (facts_of b) → a ≡ failed (facts_of b) i (action column cause second)
       → x ≡ served b t (on_failed t i (eqb a.number 20) (both column cause) (mood_on cause) (facts_of b)) → y ≡ set x DUE u
       → Says b (timed t (outcome i (rejected cause second column))) a y
   unfolding verdict moved acted on_outcome on_failed due_on wait adds enters
-  says_rejected i cause second column d {a = a} due e p q =
+  says_rejected i cause second column z {a = a} due e p q =
       let low = failed_low (facts_of b) i (action column cause second) (action_low column cause second) in
-      says_event b t (outcome i (rejected cause second column)) n d z g a (sym e) (rw e low) (λ k. refl)
+      says_event b t (outcome i (rejected cause second column)) z g a (sym e) (rw e low) (λ k. refl)
       ((laid_as (laid_due (laid_failed b g t i (eqb a.number 20) (both column cause) (mood_on cause) p) _) q).is
       ∙ (λ j. spread (with_due (with_services (moved t (facts_of b)) (on_failed t i (eqb a.number 20) (both column cause) (mood_on cause) (facts_of b))) (due j)) (rows (view b).lists)))

@@ -1,38 +1,24 @@
 -- The laws of one list's places: what a shift leaves, and what `appended` is with room and without.
 -- Assumes nothing.
-use mathlib.Core.Path.{◌≡◌, refl, sym, ap, ◌∙◌, subst}
+use mathlib.Core.Path.{◌≡◌, sym, ap, ◌∙◌}
 use mathlib.Core.List.{List, [], ◌∷◌, ◌++◌, append-nil}
-use Prim.Native.Nat.{ℕ, zero, suc, ◌+◌, ◌-◌, ◌≤◌, ◌<◌, min}
-use native.Mathlib.Nat.{not-suc-le-zero, le_of_suc-le-suc}
+use Prim.Native.Nat.{ℕ, suc, ◌+◌, ◌-◌, ◌≤◌, ◌<◌, min}
+use native.Mathlib.Nat.{zero-add}
 use native.Mathlib.Numerals.{add-one}
 use native.Mathlib.Omega.{arith}
-use lib.ListN.{length, take, drop, get_or, set, replicate, length-append, length-drop}
-use lib.Seq.{take_all, drop-append-le, set_split, drop-drop, append_snoc, length-take-le}
+use lib.ListN.{length, take, drop, get_or, set, replicate, length-append, length-drop, drop_of_length-le}
+use lib.Seq.{take_all, set_at, drop-cons, paste, drop-append-le, set_split, drop-drop, append_snoc, length-take-le}
+use Rattle.std.proofs.lemmas.List.Edits.{paste_all}
 use Rattle.rules.specs.Rules.{newest}
 use Rattle.permits.specs.Permits.{Holds, appended}
 
--- p with its elements from 1 to i moved one down
-abbrev pub shifted : List ℕ → ℕ → List ℕ
-shifted p i = take i (drop 1 p) ++ drop i p
-
-shift_suc : (p : List ℕ) (i : ℕ) → suc i < length p → set (shifted p i) i (get_or (shifted p i) (suc i) 0) ≡ shifted p (suc i)
-shift_suc [] i h = absurd (not-suc-le-zero h)
-shift_suc (x ∷ []) i h = absurd (not-suc-le-zero (le_of_suc-le-suc h))
-shift_suc (x ∷ y ∷ r) zero h = refl
-shift_suc (x ∷ y ∷ r) (suc i) h = ap (λ (l : List ℕ). y ∷ l) (shift_suc (y ∷ r) i (le_of_suc-le-suc h))
-
--- one turn
-pub shift_more : (p : List ℕ) (i : ℕ) → i + 1 < length p → set (shifted p i) i (get_or (shifted p i) (i + 1) 0) ≡ shifted p (i + 1)
-shift_more p i h = rw add-one (shift_suc p i (omega arith))
-
-shift_all : (x : ℕ) (r : List ℕ) (t : ℕ) → set (shifted (x ∷ r) (length r)) (length r) t ≡ r ++ (t ∷ [])
-shift_all x [] t = refl
-shift_all x (y ∷ r) t = ap (λ (l : List ℕ). y ∷ l) (shift_all y r t)
-
--- after the last turn, with t in the last place
-pub shift_end : (p : List ℕ) (k t : ℕ) → length p ≡ suc k → set (shifted p k) k t ≡ drop 1 p ++ (t ∷ [])
-shift_end [] k t h = absurd (omega arith)
-shift_end (x ∷ r) k t h = let e : length r ≡ k = omega arith in subst (λ (m : ℕ). set (shifted (x ∷ r) m) m t ≡ r ++ (t ∷ [])) e (shift_all x r t)
+-- p with its elements from 1 on moved one down, and t in the last place
+pub shift_end : (p : List ℕ) (k t : ℕ) → length p ≡ suc k → set (paste p 0 (drop 1 p) k) k t ≡ drop 1 p ++ (t ∷ [])
+shift_end p k t h =
+    let l : length (drop 1 p) ≡ k = simp length-drop (omega arith) in
+    let e : drop (0 + k) p ≡ get_or p k 0 ∷ [] = rw zero-add (drop-cons p k 0 (omega arith) ∙ ap (λ (r : List ℕ). get_or p k 0 ∷ r) (drop_of_length-le p {i = suc k} (omega arith))) in
+    ap (λ (m : List ℕ). set m k t) (paste_all p 0 (drop 1 p) k (sym l) ∙ ap (λ (r : List ℕ). drop 1 p ++ r) e)
+    ∙ set_at (drop 1 p) (get_or p k 0) [] t k l
 
 -- no room: the oldest goes
 pub appended_full : (p : List ℕ) (n t : ℕ) → length p ≡ 255 → 255 ≤ n → appended p n t ≡ drop 1 p ++ (t ∷ [])

@@ -6,6 +6,7 @@
 ghost use Rattle.std.specs.Prelude.{◌≡◌, true, ◌+◌, ◌≤◌, ◌<◌, min, length, take};
 ghost use Rattle.rules.specs.Tables.{ascending};
 ghost use Rattle.permits.specs.Permits.{Holds, appended, full_for};
+ghost use Rattle.refusals.specs.Refusals.{above_zero};
 
 // Adds t as the newest of a list's own 255 places, of which n are used; at 255 the oldest goes.
 // Returns the new length.
@@ -14,31 +15,26 @@ pub fn append(p: &mut [u32], n: u32, t: u32) -> u32
     ensures { (result ≡ min (n + 1) 255) × (p.new ≡ appended p.old n t) }
 {
     if n < 255 {
-        let at = n as usize;
-        p[at] = t;
+        p[n as usize] = t;
         return n + 1;
     }
-    let mut i: usize = 0;
-    while i < 254 {
-        p[i] = p[i + 1];
-        i += 1;
-    }
+    p.copy_within(1.., 0);
     p[254] = t;
     255
 }
 
-// The seconds until fewer than `most` of the first n times, which rise to t, are in the hour; 0
+// The seconds until fewer than `most` of the first n times, which rise to t, are in the hour; none
 // where fewer are. Only the time `most` places from the newest is looked at.
-pub fn full_for(p: &[u32], n: u32, t: u32, most: u32) -> u32
+pub fn full_for(p: &[u32], n: u32, t: u32, most: u32) -> Option<u32>
     requires n_in_bounds { n ≤ length p.now }
     requires p_value { ascending 0 t (take n p.now) ≡ true }
     requires most_nonzero { 0 < most }
-    ensures { result ≡ full_for t most (take n p.now) }
+    ensures { result ≡ above_zero (full_for t most (take n p.now)) }
 {
     if n < most {
-        return 0;
+        return None;
     }
     let i = n as usize - most as usize;
     let age = t - p[i];
-    if age < 3600 { 3600 - age } else { 0 }
+    if age < 3600 { Some(3600 - age) } else { None }
 }

@@ -7,6 +7,7 @@ use mathlib.Core.Logic.{◌≢◌}
 use Prim.Native.Nat.{ℕ, zero, suc, ◌+◌, ◌-◌, ◌<◌}
 use native.Mathlib.Omega.{arith}
 use lib.Dec.{lit<, lit≤, leb, ltb, eqb}
+use Rattle.std.specs.Prelude.{Option, is_some}
 use lib.Count.{ones, count_trailing_zeros}
 use lib.ListN.{length, get_or, get_or-map}
 use borrow.Author.Tests.{le-ltb, ltb-true, ltb-false, eq-eqb, ne_eqb}
@@ -18,6 +19,7 @@ use Rattle.rules.specs.Rules.{Limit, limit, limits, blocks, blocked_by, first_bl
 use Rattle.rules.specs.State.{State, idle}
 use Rattle.rules.proofs.Rows.{Each, Ordered, ordered, each_other}
 use Rattle.rules.proofs.Again.{first_is as first-number-is}
+use Rattle.refusals.specs.Refusals.{above_zero}
 use Rattle.deciding.specs.Limits.{limit_at, waiting}
 use Rattle.reasons.specs.Why.{alone, blocked, against, stand, weigh, how_many, leaving, times, refused_by, reasons}
 use Rattle.reasons.proofs.Bits.{ones_weigh, first_named, first_weigh}
@@ -276,19 +278,23 @@ module _ (w : State) (t q : ℕ) where
         let v : ts ≡ times w t q = et ∙ sym times_are in
         rw z (λ i. record { refusal = 0; bits = u i; count = c i; first = f i; times = v i })
 
-    pub said_held : (m : ℕ) → m ≡ waiting w.facts t q → not (eqb m 0) ≡ runs w.facts t q
+    pub said_held : (o : Option ℕ) → o ≡ above_zero (waiting w.facts t q) → is_some o ≡ runs w.facts t q
     unfolding runs
-    said_held m e = rw e (go (leb q 3))
+    said_held o e = rw e (go (leb q 3))
       where
         end : ℕ
         end = get_or w.facts.services.ends q 0
+
+        some_left : (n : ℕ) → is_some (above_zero n) ≡ not (eqb n 0)
+        some_left zero = refl
+        some_left (suc n) = sym (ap not (ne_eqb (suc n) 0 (λ z. omega (arith, z))))
 
         open_end : (x : Bool) → ltb t end ≡ x → not (eqb (end - t) 0) ≡ x
         open_end true d = let l = ltb-true t end d in ap not (ne_eqb (end - t) 0 (λ k. omega arith))
         open_end false d = let l = ltb-false t end d in ap not (eq-eqb (end - t) 0 (omega arith))
 
-        go : (b : Bool) → not (eqb (cond b (end - t) 0) 0) ≡ (b && ltb t end)
-        go true = open_end (ltb t end) refl
+        go : (b : Bool) → is_some (above_zero (cond b (end - t) 0)) ≡ (b && ltb t end)
+        go true = some_left (end - t) ∙ open_end (ltb t end) refl
         go false = refl
 
 -- a request that is refused

@@ -1,11 +1,12 @@
 -- One number with a bit for each: its ones are as many as stand, and its trailing zeros find the first. Assumes nothing.
 use mathlib.Core.Path.{◌≡◌, refl, ap, ◌∙◌}
 use mathlib.Core.Bool.{Bool, true, false, cond}
-use mathlib.Core.List.{List, [], ◌∷◌}
+use mathlib.Core.List.{List, [], ◌∷◌, ◌++◌, append_assoc}
 use Prim.Native.Nat.{ℕ, zero, suc, ◌+◌, ◌*◌, ◌/◌, ◌%◌, ◌^◌, ◌≤◌, ◌<◌}
 use native.Mathlib.Omega.{arith}
-use native.Mathlib.Nat.{pow-suc}
-use lib.ListN.{length, get_or}
+use native.Mathlib.Nat.{pow-suc, pow-le-pow_right}
+use lib.Dec.{lit<}
+use lib.ListN.{length, get_or, length-append}
 use lib.Count.{ones, ones_step, count_trailing_zeros, under}
 use Rattle.rules.proofs.Among.{All}
 use Rattle.reasons.specs.Why.{bit, bit_at, weigh, how_many}
@@ -71,3 +72,16 @@ weigh_lt (b ∷ bs) = let h = weigh_lt bs in rw (pow-suc 2 (length bs)) (go b h)
     go : (x : Bool) → weigh bs < 2 ^ length bs → bit x + 2 * weigh bs < 2 ^ length bs * 2
     go true h = omega arith
     go false h = omega arith
+
+-- of eight, where some are still to come
+pub weigh_low : (xs rest d : List Bool) → length xs ≡ 8 → xs ≡ rest ++ d → 0 < length rest → weigh d < 128
+weigh_low xs rest d e h r =
+    let l : length xs ≡ length rest + length d = ap (length {A = Bool}) h ∙ length-append rest d in
+    let n : length d ≤ 7 = omega arith in
+    let p : 2 ^ length d ≤ 2 ^ 7 = pow-le-pow_right (lit< tt) n in
+    let w = weigh_lt d in
+    omega (arith, p, w)
+
+-- one more, from the last to the first
+pub weighed : (xs rest rest' d : List Bool) (b : Bool) → xs ≡ rest ++ d → rest ≡ rest' ++ (b ∷ []) → xs ≡ rest' ++ (b ∷ d)
+weighed xs rest rest' d b h e = h ∙ ap {B = List Bool} (λ r. r ++ d) e ∙ append_assoc rest' (b ∷ []) d

@@ -4,7 +4,7 @@ use mathlib.Core.Path.{◌≡◌, refl, ap, ◌∙◌}
 use mathlib.Core.Bool.{Bool, true, false, ◌&&◌, false≢true}
 use mathlib.Core.List.{List, [], ◌∷◌, ◌++◌, append_assoc}
 use mathlib.Core.Logic.{◌≢◌}
-use mathlib.Core.Option.{some}
+use Rattle.std.specs.Prelude.{Some}
 use Prim.Native.Nat.{ℕ, zero, suc, ◌-◌, ◌*◌, ◌≤◌, ◌<◌}
 use native.Mathlib.Omega.{arith}
 use lib.Dec.{eqb, lit<}
@@ -141,7 +141,7 @@ unfolding numbers_in
 numbers_back x l rest n e = ap numbers_of (take_at (image_of l) rest (4 * n) (omega (arith, image_length l)))
 
 -- a record reads back as its call, whatever the answer
-pub parsed_back : (n : Noted) (a : Answer) → Fits n → parsed (encoded n a) ≡ some n
+pub parsed_back : (n : Noted) (a : Answer) → Fits n → parsed (encoded n a) ≡ Some n
 unfolding parsed encoded packed timed_by line_by
 parsed_back (times t e) a f =
     let l : List ℕ = t ∷ arguments_of e in

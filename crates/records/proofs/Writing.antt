@@ -1,15 +1,13 @@
--- A record written part by part, and compared byte by byte. Assumes nothing.
-use mathlib.Core.Path.{◌≡◌, refl, sym, ap, ◌∙◌}
-use mathlib.Core.Bool.{true, false, ◌&&◌}
-use mathlib.Core.List.{List, [], ◌∷◌, ◌++◌, append_assoc, append-nil}
-use mathlib.Core.Logic.{◌≢◌}
-use Prim.Native.Nat.{ℕ, zero, suc, ◌+◌, ◌-◌, ◌*◌, ◌≤◌, ◌<◌}
+-- A record written part by part, and compared. Assumes nothing.
+use mathlib.Core.Path.{◌≡◌, refl, ap, ◌∙◌}
+use mathlib.Core.Bool.{Bool, ◌&&◌}
+use mathlib.Core.List.{List, [], ◌∷◌, ◌++◌, append_assoc}
+use Prim.Native.Nat.{ℕ, zero, suc, ◌+◌, ◌-◌, ◌*◌, ◌≤◌}
 use native.Mathlib.Omega.{arith}
-use native.Mathlib.Numerals.{add-one}
 use lib.Dec.{eqb}
-use lib.ListN.{length, get_or, take, drop, set, replicate, length-append, drop_of_length-le}
-use lib.Seq.{take_at, drop_at, take_all, take-suc-set, drop-cons}
-use borrow.Author.Tests.{eq-eqb, ne_eqb}
+use lib.ListN.{length, take, drop, set, replicate, length-append}
+use lib.Seq.{take_at, drop_at}
+use Rattle.std.specs.Cmp.Lexicographic.{pointwise}
 use Rattle.rules.specs.declared.Answer.{Answer}
 use Rattle.image.specs.Image.{image_of}
 use Rattle.image.proofs.Returns.{image_length}
@@ -69,30 +67,12 @@ module _ (l : List ℕ) (a : Answer) (room p q : List ℕ) (zeros : room ≡ rep
       let r-is = next_part (letter_a ∷ (size ++ l)) (image_of (a.number ∷ a.second ∷ [])) q r (5 + length l) 8 (123 - length l) (omega arith) q-is g in
       packed_parts letter_a (size ++ l) a (omega arith) r (rw (both, ← n) r-is)
 
--- ---- Loops
+-- ---- Two records
 
--- bytes copied, the first i of them
-module _ (l to : List ℕ) (i : ℕ) (long : length to ≡ length l) (so : take i to ++ drop i l ≡ l) where
-  pub copy_next : i < length l → take (i + 1) (set to i (get_or l i 0)) ++ drop (i + 1) l ≡ l
-  copy_next h =
-      rw (add-one, take-suc-set to i (get_or l i 0) (omega arith))
-      (append_assoc (take i to) (get_or l i 0 ∷ []) (drop (suc i) l) ∙ ap (λ (t : List ℕ). take i to ++ t) (sym (drop-cons l i 0 h)) ∙ so)
-
-  pub copy_end : length l ≤ i → to ≡ l
-  copy_end h = sym (append-nil to) ∙ (rw (take_all i to (omega arith), drop_of_length-le l {i = i} h) at so)
-
--- bytes compared: what is left decides
-module _ (a b : List ℕ) (i : ℕ) (long : length a ≡ length b) where
-  step_same : i < length a → same (drop i a) (drop i b) ≡ (eqb (get_or a i 0) (get_or b i 0) && same (drop (suc i) a) (drop (suc i) b))
-  unfolding same
-  step_same h = rw (drop-cons a i 0 h, drop-cons b i 0 (omega arith))
-
-  pub same_next : i < length a → get_or a i 0 ≡ get_or b i 0 → same (drop i a) (drop i b) ≡ same a b → same (drop (i + 1) a) (drop (i + 1) b) ≡ same a b
-  same_next h e s = rw add-one (sym (step_same h ∙ rw (eq-eqb (get_or a i 0) (get_or b i 0) e)) ∙ s)
-
-  pub same_not : i < length a → get_or a i 0 ≢ get_or b i 0 → same (drop i a) (drop i b) ≡ same a b → false ≡ same a b
-  same_not h e s = sym (step_same h ∙ rw (ne_eqb (get_or a i 0) (get_or b i 0) e)) ∙ s
-
-  pub same_all : length a ≤ i → same (drop i a) (drop i b) ≡ same a b → true ≡ same a b
-  unfolding same
-  same_all h s = rw (drop_of_length-le a {i = i} h, drop_of_length-le b {i = i} (omega arith)) at s
+-- std's comparison of two lists is the definition's
+pub same_is : (a b : List ℕ) → pointwise eqb a b ≡ same a b
+unfolding same
+same_is [] [] = refl
+same_is [] (y ∷ b) = refl
+same_is (x ∷ a) [] = refl
+same_is (x ∷ a) (y ∷ b) = ap (λ (rest : Bool). eqb x y && rest) (same_is a b)

@@ -1,8 +1,7 @@
 -- A call and its answer as a record of 128 bytes: document 01's letter, the call's numbers, four
 -- bytes each, the lowest first, or of an AT line its length and its bytes; then the two numbers of
 -- the answer, and zeros to the end. Assumes nothing.
-use Rattle.std.specs.Prelude.{Bool, true, false, cond, ◌&&◌, List, [], ◌∷◌, ◌++◌, ℕ, ◌-◌, ◌*◌, ◌≤◌, eqb, leb, length, get_or, take, drop, replicate}
-use Rattle.std.proofs.Math.Option.{Option, none, some}
+use Rattle.std.specs.Prelude.{Bool, true, false, cond, ◌&&◌, List, [], ◌∷◌, ◌++◌, ℕ, ◌-◌, ◌*◌, ◌≤◌, eqb, leb, length, get_or, take, drop, replicate, Option, Some, None}
 use Rattle.rules.specs.declared.Answer.{Answer}
 use Rattle.rules.specs.Calls.{Call, timed, typed}
 use Rattle.rules.specs.declared.Event.{Event}
@@ -70,11 +69,11 @@ numbers_in n r = numbers_of (take (4 * n) (drop 1 r))
 
 -- the timed call of a letter and its numbers, where the letter begins one
 unfoldable pub timed_by : ℕ → List ℕ → Option Noted
-timed_by x v = cond (eqb (how_many x) 0) none (some (times (get_or v 0 0) (event_of x v)))
+timed_by x v = cond (eqb (how_many x) 0) None (Some (times (get_or v 0 0) (event_of x v)))
 
 -- the AT line of so many bytes, where it is not too long
 unfoldable pub line_by : ℕ → List ℕ → Option Noted
-line_by n bytes = cond (leb n longest_line) (some (types (take n bytes))) none
+line_by n bytes = cond (leb n longest_line) (Some (types (take n bytes))) None
 
 unfoldable pub parsed : List ℕ → Option Noted
 parsed r = cond (eqb (get_or r 0 0) letter_a) (line_by (get_or (numbers_in 1 r) 0 0) (drop 5 r)) (timed_by (get_or r 0 0) (numbers_in (how_many (get_or r 0 0)) r))

@@ -15,7 +15,7 @@ use Rattle.buffer.specs.Places.{STANDING, COUNTERS, DUE}
 use Rattle.buffer.specs.Layout.{rows}
 use Rattle.buffer.specs.Good.{Shape}
 use Rattle.buffer.specs.Lists.{permitted}
-use Rattle.rules.proofs.Among.{among_all}
+use Rattle.rules.proofs.Among.{among_all, not_among}
 use Rattle.buffer.proofs.Keep.{newest_all}
 use Rattle.buffer.proofs.Laid.{all_four, Laid, laid_as, laid_shape, laid_shaped, laid_counter, counter_at, laid_standing, laid_due, laid_permit}
 use Rattle.request.specs.Request.{bumped, tallied, stood, listed, sent}
@@ -26,6 +26,30 @@ stands_at f l = with_services f (with_standing f.services l)
 -- an answer that raises a counter has one of the six
 pub counter_of : (n : ℕ) → among n counting ≡ true → (11 ≤ n) × (n - 11 < 6)
 counter_of n e = among_all (λ m. (11 ≤ m) × (m - 11 < 6)) n counting (omega arith) e
+
+-- and the six are 11 to 16
+counting_at : (k : ℕ) → k < 6 → among (11 + k) counting ≡ true
+counting_at zero h = refl
+counting_at (suc zero) h = refl
+counting_at (suc (suc zero)) h = refl
+counting_at (suc (suc (suc zero))) h = refl
+counting_at (suc (suc (suc (suc zero)))) h = refl
+counting_at (suc (suc (suc (suc (suc zero))))) h = refl
+counting_at (suc (suc (suc (suc (suc (suc k)))))) h = absurd (omega arith)
+
+pub tally_on : (b : List ℕ) (n : ℕ) → 11 ≤ n → n ≤ 16 → bumped b (n - 11) ≡ tallied b n
+unfolding tallied
+tally_on b n h k =
+    let e : 11 + (n - 11) ≡ n = omega arith in
+    rw (ap (λ (m : ℕ). among m counting) (sym e) ∙ counting_at (n - 11) (omega arith))
+
+pub tally_below : (b : List ℕ) (n : ℕ) → n < 11 → b ≡ tallied b n
+unfolding tallied
+tally_below b n h = rw (not_among n counting (omega arith))
+
+pub tally_above : (b : List ℕ) (n : ℕ) → 16 < n → b ≡ tallied b n
+unfolding tallied
+tally_above b n h = rw (not_among n counting (omega arith))
 
 module _ {b : List ℕ} {f : Facts} {rs : List (List ℕ)} (l : Laid b f rs) where
   idle_laid : Laid (set (set (set (set b STANDING 0) (STANDING + 1) 0) (STANDING + 2) 0) (STANDING + 3) 0) (stands_at f idle) rs

@@ -2,7 +2,7 @@
 use mathlib.Core.Path.{◌≡◌, refl, sym, ap, ◌∙◌}
 use mathlib.Core.Bool.{Bool, true, false, false≢true}
 use mathlib.Core.List.{List}
-use mathlib.Core.Option.{Option}
+use Rattle.std.specs.Prelude.{Option}
 use Prim.Native.Nat.{ℕ}
 use lib.Dec.{eqb}
 use lib.ListN.{length, take}
@@ -72,5 +72,5 @@ module _ (i a s : List ℕ) where
           pub restart_refused : y ≡ false → RestartSays i a s (answer 7 0) w s
           restart_refused h = rw (r.off h).1 (says refused (r.off h).0)
 
-          pub restart_done : y ≡ true → (z : List ℕ) → z ≡ x → RestartSays i a s (answer 0 0) w z
-          restart_done h z d = rw d (says (done x w) (r.on h))
+          pub restart_done : y ≡ true → RestartSays i a s (answer 0 0) w x
+          restart_done h = says (done x w) (r.on h)

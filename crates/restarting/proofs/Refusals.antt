@@ -4,7 +4,8 @@ use mathlib.Core.Path.{◌≡◌, refl, sym, ap, ◌∙◌, subst}
 use mathlib.Core.Bool.{Bool, true, false, cond, not, ◌&&◌, false≢true}
 use mathlib.Core.List.{List, [], ◌∷◌, ◌++◌}
 use mathlib.Core.Logic.{◌≢◌}
-use mathlib.Core.Option.{Option, none, some}
+use Rattle.std.specs.Prelude.{Option, Some, None}
+use Rattle.std.proofs.lemmas.Option.{none-some, same_Some}
 use Prim.Native.Nat.{ℕ}
 use native.Mathlib.Omega.{arith}
 use Rattle.rules.specs.declared.Answer.{Answer}
@@ -100,8 +101,8 @@ module _ {b a : List ℕ} {n : Noted} {r : Answer} {x y : List ℕ} (j : Journal
 
 -- ---- Every call that has returned
 
--- a call that has returned and was not refused is the newest of the journal's calls, with the answer
--- that was given
+-- a call that has returned and was not refused is the newest of the journal's calls, with the
+-- answer that was given
 module _ {image s a x y : List ℕ} {ns : List Noted} {rs : List Answer} (h : Lived image s a ns rs) (r : Answer) (ok : refused r ≡ false) (room : r.number ≢ 6) where
   pub returned : (t : ℕ) (e : Event) → Sized (times t e) → Journals s a (times t e) r x y → Lived image x y (ns ++ (times t e ∷ [])) (rs ++ (r ∷ []))
   returned t e w j = rw (accepted_kept j ok room) at (called t e r h w j)
@@ -140,32 +141,16 @@ restart_stays {i} {a} {s} {r} {y} {x} w h = go (fits a s) (judged i a s) refl re
 
 -- ---- A record's meaning
 
-from_some : List ℕ → Option (List ℕ) → List ℕ
-from_some y none = y
-from_some y (some x) = x
-
-is_some : Option (List ℕ) → Bool
-is_some none = false
-is_some (some x) = true
-
-some_is : {x y : List ℕ} → some x ≡ some y → x ≡ y
-unfolding from_some
-some_is {x} e = ap (λ (o : Option (List ℕ)). from_some x o) e
-
-none_some : {x : List ℕ} → none ≡ some x → ⊥
-unfolding is_some
-none_some e = false≢true (ap is_some e)
-
 -- where a record has a meaning, the gate writes it there, of a call that it accepts
-pub step_wrote : (b r x : List ℕ) → step b r ≡ some x → Wrote b r x
+pub step_wrote : (b r x : List ℕ) → step b r ≡ Some x → Wrote b r x
 unfolding step step_by writes
 step_wrote b r x e = go (parsed r) e
   where
-    by : (n : Noted) (p q : Bool) → same (record_at b n) r ≡ p → refused (answer_at b n) ≡ q → cond (p && not q) (some (call_after b (call_of n))) none ≡ some x → Wrote b r x
-    by n true false f g d = subst (λ (y : List ℕ). Wrote b r y) (some_is d) (wrote n g (sym (same_eq (record_at b n) r f)))
-    by n true true f g d = absurd (none_some d)
-    by n false q f g d = absurd (none_some d)
+    by : (n : Noted) (p q : Bool) → same (record_at b n) r ≡ p → refused (answer_at b n) ≡ q → cond (p && not q) (Some (call_after b (call_of n))) None ≡ Some x → Wrote b r x
+    by n true false f g d = subst (λ (y : List ℕ). Wrote b r y) (same_Some _ _ d) (wrote n g (sym (same_eq (record_at b n) r f)))
+    by n true true f g d = absurd (none-some _ d)
+    by n false q f g d = absurd (none-some _ d)
 
-    go : (o : Option Noted) → step_by b r o ≡ some x → Wrote b r x
-    go none d = absurd (none_some d)
-    go (some n) d = by n (same (record_at b n) r) (refused (answer_at b n)) refl refl d
+    go : (o : Option Noted) → step_by b r o ≡ Some x → Wrote b r x
+    go None d = absurd (none-some _ d)
+    go (Some n) d = by n (same (record_at b n) r) (refused (answer_at b n)) refl refl d

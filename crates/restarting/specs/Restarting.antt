@@ -1,7 +1,6 @@
 -- Restart: what a record means at a buffer, and what restart promises of the area and the state
 -- that it is lent, whatever they and the image hold. Assumes nothing.
-use Rattle.std.specs.Prelude.{◌≡◌, Bool, true, false, cond, not, ◌&&◌, List, ℕ, eqb, length}
-use Rattle.std.proofs.Math.Option.{Option, none, some}
+use Rattle.std.specs.Prelude.{◌≡◌, Bool, true, false, cond, not, ◌&&◌, List, ℕ, eqb, length, Option, Some, None}
 use Rattle.rules.specs.declared.Answer.{Answer}
 use Rattle.rules.specs.Calls.{answer}
 use Rattle.rules.specs.Rules.{refused}
@@ -20,8 +19,8 @@ writes b r n = same (record_at b n) r && not (refused (answer_at b n))
 
 -- the buffer after that call, and none where the gate would not write r there
 unfoldable pub step_by : (b r : List ℕ) → Option Noted → Option (List ℕ)
-step_by b r none = none
-step_by b r (some n) = cond (writes b r n) (some (call_after b (call_of n))) none
+step_by b r None = None
+step_by b r (Some n) = cond (writes b r n) (Some (call_after b (call_of n))) None
 
 unfoldable pub step : (b r : List ℕ) → Option (List ℕ)
 step b r = step_by b r (parsed r)
@@ -60,8 +59,8 @@ pub record RestartSays (i a s : List ℕ) (r : Answer) (y x : List ℕ) : Type 0
 
 -- yes: the optional buffer is x; no: there is none; x is good either way
 pub record Answers (o : Option (List ℕ)) (yes : Bool) (x : List ℕ) : Type 0 where
-  pub on : yes ≡ true → o ≡ some x
-  pub off : yes ≡ false → o ≡ none
+  pub on : yes ≡ true → o ≡ Some x
+  pub off : yes ≡ false → o ≡ None
   pub fit : good x ≡ true
 
 -- yes: restart ends with the state x and the area y; no: it is refused, and the area stays

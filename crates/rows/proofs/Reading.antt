@@ -4,14 +4,15 @@ use mathlib.Core.Path.{◌≡◌, refl, sym, ◌∙◌}
 use mathlib.Core.Bool.{true, false}
 use mathlib.Core.List.{List, [], ◌∷◌, ◌++◌}
 use native.Mathlib.Numerals.{add-one}
-use native.Mathlib.Omega.{arith}
 use lib.Dec.{eqb, ltb}
-use borrow.Author.Tests.{ltb-true, ltb-false, ne_eqb}
-use Rattle.rows.specs.Rows.{row_of}
+use borrow.Author.Tests.{ltb-true, ltb-false}
 use lib.ListN.{length, get_or, take, drop, set, drop_of_length-le}
 use lib.Seq.{drop-cons, drop-drop, take-suc-set}
 use Rattle.text.proofs.Choice.{cond_by, absurd_bool}
 use Rattle.text.specs.Number.{got, none, num}
+use Rattle.std.specs.Prelude.{Option, Some, None, MatchOption}
+use Rattle.std.specs.Option.{option_eq}
+use Rattle.std.proofs.Common.{Bor}
 use Rattle.rows.specs.Rows.{space, begins, ended, field, row, no_row, numbers, fields}
 
 module _ (l : List ℕ) (i : ℕ) where
@@ -78,7 +79,8 @@ by_lt {P} m n f g = cond_by (λ (_ : ℕ). P) (ltb m n) {x = 0} {y = 0} (λ e. f
 pub begins_place : (x : ℕ) (l : List ℕ) (i : ℕ) → begins x (drop i l) ≡ true → i < length l
 begins_place x l i e = by_lt i (length l) (λ h. h) (λ h. absurd_bool (sym (begins_end l i x h) ∙ e))
 
--- ---- The code's form of a row
-
-pub some_row : (line out : List ℕ) (n next : ℕ) → row_of line (record { count = n + 1; next = next }) out ≡ row (take (n + 1) out) (drop next line)
-some_row line out n next = rw (ne_eqb (n + 1) 0 (λ e. omega arith))
+-- the byte that is looked up at a place, beside x
+pub looked_up : (x : ℕ) (l : List ℕ) (i : ℕ) (r : Option (Bor ℕ)) (y : Bor ℕ) → MatchOption r (length l ≤ i) (λ b. (i < length l) × ((d : ℕ) → b.now ≡ get_or l i d)) → y.now ≡ x
+    → option_eq (λ a b. eqb a.now b.now) r (Some y) ≡ begins x (drop i l)
+looked_up x l i None y h e = sym (begins_end l i x h)
+looked_up x l i (Some b) y h e = rw (begins_at l i x h.0, ← e, h.1 0)

@@ -1,6 +1,6 @@
 -- Rows of numbers as the code holds them, and the numbers in them. Assumes nothing.
 use Prim.Native.Nat.{ℕ, zero, suc, ◌^◌, ◌≤◌, ◌<◌}
-use mathlib.Core.Path.{◌≡◌, refl, sym, ◌∙◌, subst}
+use mathlib.Core.Path.{◌≡◌, sym, ◌∙◌, subst}
 use mathlib.Core.Bool.{cond}
 use mathlib.Core.List.{List, [], ◌∷◌, ◌++◌}
 use mathlib.Core.Logic.{◌≢◌}
@@ -12,7 +12,7 @@ use borrow.Author.Tests.{eq-eqb, ne_eqb}
 use Rattle.text.specs.Number.{Part, got, none, num, part_of}
 use Rattle.text.specs.Printed.{After}
 use Rattle.text.specs.declared.Num.{Num}
-use Rattle.text.specs.declared.Num.TheVariants as N
+use Rattle.std.specs.Prelude.{Option, Some, None}
 use Rattle.text.proofs.Choice.{cond_by}
 use Rattle.text.proofs.Printed.{num_said}
 use Rattle.rows.specs.Rows.{Row, row, no_row, begins, more_of, numbers, space, fields, if_number, if_numbers, if_exactly}
@@ -21,32 +21,30 @@ use Rattle.rows.specs.declared.Span.{Span}
 
 -- ---- What follows what the code read
 
-module _ {A : Type 0} (z : A) (line : List ℕ) (r : Num) {x : Part} (e : part_of line r ≡ x) (go : ℕ → List ℕ → A) where
-  pub number_none : r ≡ N.Nothing → if_number z x go ≡ z
+module _ {A : Type 0} (z : A) (line : List ℕ) (r : Option Num) {x : Part} (e : part_of line r ≡ x) (go : ℕ → List ℕ → A) where
+  pub number_none : r ≡ None → if_number z x go ≡ z
   number_none h = rw (← e, h)
 
-  pub number_some : (v p : ℕ) → r ≡ N.At v p → if_number z x go ≡ go v (drop p line)
-  number_some v p h = rw (← e, h)
+  pub number_some : (n : Num) → r ≡ Some n → if_number z x go ≡ go n.value (drop n.next line)
+  number_some n h = rw (← e, h)
 
-module _ {A : Type 0} (z : A) (line out : List ℕ) (s : Span) {x : Row} (e : row_of line s out ≡ x) (go : List ℕ → List ℕ → A) where
-  pub numbers_none : s.count ≡ 0 → if_numbers z x go ≡ z
-  numbers_none h = rw (← e, eq-eqb s.count 0 h)
+module _ {A : Type 0} (z : A) (line out : List ℕ) (r : Option Span) {x : Row} (e : row_of line r out ≡ x) (go : List ℕ → List ℕ → A) where
+  pub numbers_none : r ≡ None → if_numbers z x go ≡ z
+  numbers_none h = rw (← e, h)
 
-  pub numbers_some : s.count ≢ 0 → if_numbers z x go ≡ go (take s.count out) (drop s.next line)
-  numbers_some h = rw (← e, ne_eqb s.count 0 h)
+  pub numbers_some : (s : Span) → r ≡ Some s → if_numbers z x go ≡ go (take s.count out) (drop s.next line)
+  numbers_some s h = rw (← e, h)
 
-module _ {A : Type 0} (z : A) (k : ℕ) (line out : List ℕ) (s : Span) {x : Row} (e : row_of line s out ≡ x) (few : s.count ≤ length out) (go : List ℕ → List ℕ → A) where
-  pub exactly_none : s.count ≡ 0 → if_exactly z k x go ≡ z
-  exactly_none h = numbers_none z line out s e (λ n l. cond (eqb (length n) k) (go n l) z) h
+module _ {A : Type 0} (z : A) (k : ℕ) (line out : List ℕ) (r : Option Span) {x : Row} (e : row_of line r out ≡ x) (go : List ℕ → List ℕ → A) where
+  pub exactly_none : r ≡ None → if_exactly z k x go ≡ z
+  exactly_none h = numbers_none z line out r e (λ n l. cond (eqb (length n) k) (go n l) z) h
 
-  pub exactly_not : s.count ≢ k → if_exactly z k x go ≡ z
-  exactly_not h =
-      subst (λ (y : Row). if_exactly z k y go ≡ z) e
-      (cond_by (λ (y : Row). if_exactly z k y go ≡ z) (eqb s.count 0) {x = no_row} {y = row (take s.count out) (drop s.next line)} (λ _. refl)
-      (λ _. rw (length-take-le s.count out few, ne_eqb s.count k h)))
+  module _ (s : Span) (h : r ≡ Some s) (few : s.count ≤ length out) where
+    pub exactly_not : s.count ≢ k → if_exactly z k x go ≡ z
+    exactly_not n = numbers_some z line out r e (λ m l. cond (eqb (length m) k) (go m l) z) s h ∙ rw (length-take-le s.count out few, ne_eqb s.count k n)
 
-  pub exactly_so : s.count ≢ 0 → s.count ≡ k → if_exactly z k x go ≡ go (take s.count out) (drop s.next line)
-  exactly_so n h = numbers_some z line out s e (λ m l. cond (eqb (length m) k) (go m l) z) n ∙ rw (length-take-le s.count out few, eq-eqb s.count k h)
+    pub exactly_so : s.count ≡ k → if_exactly z k x go ≡ go (take s.count out) (drop s.next line)
+    exactly_so n = numbers_some z line out r e (λ m l. cond (eqb (length m) k) (go m l) z) s h ∙ rw (length-take-le s.count out few, eq-eqb s.count k n)
 
 -- ---- The numbers of a row are in range
 
@@ -77,7 +75,5 @@ module _ (sep most : ℕ) (lim : most < 10 ^ 20) where
   fields_up_to k l = cond_by (RowUpTo most) (begins space l) {x = numbers sep most k (drop 1 l) []} {y = no_row} (λ _. numbers_up_to k (drop 1 l) [] (λ i p. absurd (omega arith))) (λ _. tt)
 
   -- so are those that fill the list that the code lent
-  pub full_up_to : (k : ℕ) (l line out : List ℕ) (s : Span) → row_of line s out ≡ fields sep most k l → s.count ≢ 0 → length out ≤ s.count → UpTo most out
-  full_up_to k l line out s e n h =
-      let f : row (take s.count out) (drop s.next line) ≡ fields sep most k l = sym (rw (ne_eqb s.count 0 n)) ∙ e in
-      subst (UpTo most) (take_all s.count out h) (subst (RowUpTo most) (sym f) (fields_up_to k l))
+  pub full_up_to : (k : ℕ) (l line out : List ℕ) (s : Span) → row_of line (Some s) out ≡ fields sep most k l → length out ≤ s.count → UpTo most out
+  full_up_to k l line out s e h = subst (UpTo most) (take_all s.count out h) (subst (RowUpTo most) (sym e) (fields_up_to k l))

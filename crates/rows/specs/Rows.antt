@@ -1,6 +1,6 @@
 -- Numbers in a line of bytes: fields are parted by one space, listed numbers by another byte.
 -- Assumes nothing.
-use Rattle.std.specs.Prelude.{Bool, true, false, cond, List, [], ◌∷◌, ◌++◌, ℕ, zero, suc, ◌≤◌, ◌<◌, eqb, length, get_or, take, drop}
+use Rattle.std.specs.Prelude.{Bool, true, false, cond, List, [], ◌∷◌, ◌++◌, ℕ, zero, suc, ◌≤◌, ◌<◌, eqb, length, get_or, take, drop, Option, Some, None}
 use Rattle.text.specs.Number.{Part, got, none, num}
 use Rattle.rows.specs.declared.Span.{Span}
 
@@ -61,5 +61,6 @@ abbrev pub UpTo : ℕ → List ℕ → Type 0
 UpTo most l = (i : ℕ) → i < length l → get_or l i 0 ≤ most
 
 -- a row: the first numbers of a list that was lent, and the place after them in the line
-abbrev pub row_of : List ℕ → Span → List ℕ → Row
-row_of line s out = cond (eqb s.count 0) no_row (row (take s.count out) (drop s.next line))
+abbrev pub row_of : List ℕ → Option Span → List ℕ → Row
+row_of line None out = no_row
+row_of line (Some s) out = row (take s.count out) (drop s.next line)

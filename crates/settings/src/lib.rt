@@ -1,52 +1,48 @@
 // What AT lines settle, on a buffer of the right length: NFM, Start Timer and the base intervals.
 #![tactic(auto)]
 
-ghost use Rattle.std.specs.Prelude.{◌≡◌, ◌<◌, ◌≤◌, length, take};
-ghost use Rattle.buffer.specs.Places.{SIZE};
+ghost use Rattle.std.specs.Prelude.{◌≡◌, ◌≤◌, length};
+ghost use Rattle.services.specs.Services.{index_of};
 ghost use Rattle.backoff.specs.Backoffs.{stored, clear};
 ghost use Rattle.settings.specs.Settings.{calmed, turned, timed_by};
 
-use buffer::fields;
+use buffer::places::Buffer;
+use buffer::{fields, places as at};
+use services::Service;
 
-// Service i has no failure and no end.
-fn calm(s: &mut [u32], i: usize)
-    requires s_len { length s.old ≡ SIZE }
-    requires i_bound { i < 4 }
-    ensures { s.new ≡ stored s.old i clear }
+// A service has no failure and no end.
+fn calm(s: &mut Buffer, service: Service)
+    ensures { s.new ≡ stored s.old (index_of service) clear }
 {
-    let b = backoff::load(s, i);
-    backoff::store(s, i, b.cleared());
+    backoff::store(s, service, backoff::load(s, service).cleared());
 }
 
 // None of the four has.
-fn calm_all(s: &mut [u32])
-    requires { length s.old ≡ SIZE }
+fn calm_all(s: &mut Buffer)
     ensures { s.new ≡ calmed s.old }
 {
-    calm(s, 0);
-    calm(s, 1);
-    calm(s, 2);
-    calm(s, 3);
+    calm(s, Service::Gsm);
+    calm(s, Service::Gprs);
+    calm(s, Service::Pdp);
+    calm(s, Service::Sms);
 }
 
 // NFM becomes a and Start Timer start; with a 0, failures and ends become 0.
-pub fn turn(s: &mut [u32], a: u32, start: u32)
-    requires { length s.old ≡ SIZE }
+#[tactic(auto, unfolding(crate::specs::Settings::turned))]
+pub fn turn(s: &mut Buffer, a: u32, start: u32)
     ensures { s.new ≡ turned s.old a start }
 {
-    fields::set_nfm(s, a);
-    fields::set_start(s, start);
+    fields::set_flags(s, a, start);
     if a == 0 {
         calm_all(s);
     }
 }
 
-// The first n of the list become the intervals.
-pub fn schedule(s: &mut [u32], list: &[u32], n: usize)
-    requires s_len { length s.old ≡ SIZE }
-    requires n_bound { (n ≤ 10) × (length list.now ≡ 10) }
-    ensures { s.new ≡ timed_by s.old (take n list.now) }
+// The list becomes the intervals.
+pub fn schedule(s: &mut Buffer, list: &[u32])
+    requires { length list.now ≤ 10 }
+    ensures { s.new ≡ timed_by s.old list.now }
 {
-    fields::set_count(s, n as u32);
-    opening::intervals(s, &list[..n]);
+    s[at::COUNT] = list.len() as u32;
+    opening::intervals(s, list);
 }

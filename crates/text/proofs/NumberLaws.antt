@@ -1,6 +1,6 @@
 -- The reading of a decimal, step by step, at a place of a line. Assumes nothing.
 use Prim.Native.Nat.{ℕ, ◌+◌, ◌*◌, ◌≤◌, ◌<◌}
-use mathlib.Core.Path.{◌≡◌, refl, ap}
+use mathlib.Core.Path.{◌≡◌, refl, ap, subst, ◌∙◌}
 use mathlib.Core.List.{List}
 use native.Mathlib.Numerals.{add-one}
 use native.Mathlib.Omega.{arith}
@@ -9,7 +9,7 @@ use lib.Seq.{drop-cons}
 use borrow.Author.Tests.{lt-ltb, le-ltb, le-leb, lt-leb, eq-eqb, ne_eqb}
 use Rattle.text.specs.Number.{digit_of, got, none, digits, num, part_of, place_of}
 use Rattle.text.specs.declared.Num.{Num}
-use Rattle.text.specs.declared.Num.TheVariants.{At, Nothing}
+use Rattle.std.specs.Prelude.{Option, Some, None}
 
 module _ (most : ℕ) (l : List ℕ) (i : ℕ) where
   pub num_end : length l ≤ i → num most (drop i l) ≡ none
@@ -51,13 +51,17 @@ module _ (most : ℕ) (l : List ℕ) (i d : ℕ) (h : i < length l) (e : d ≡ d
     unfolding digits
     digits_go p q = rw (drop-cons l i 0 h, ← e, add-one, lt-ltb d 10 (omega arith), le-leb (v * 10 + d) most q)
 
+-- a 0 that was looked up
+pub num_zero_at : (most : ℕ) (l : List ℕ) (i b d : ℕ) → i < length l → ((e : ℕ) → b ≡ get_or l i e) → d ≡ digit_of b → d ≡ 0 → num most (drop i l) ≡ got 0 (drop (i + 1) l)
+num_zero_at most l i b d h k e z = num_zero most l i d h (e ∙ ap digit_of (k 0)) z
+
 -- the contract of `decimal` has one answer: the bytes after a number fix the place
-pub one_answer : (l : List ℕ) (r s : Num) → part_of l r ≡ part_of l s → place_of r ≤ length l → place_of s ≤ length l → r ≡ s
-one_answer l (At v p) (At w q) e a b =
-    let x : drop p l ≡ drop q l = cc e in
-    let y : p ≡ q = omega (arith, length-drop p l, length-drop q l, ap length x) in
-    let z : v ≡ w = cc e in
-    cc
-one_answer l (At v p) Nothing e a b = absurd (let z : ◌≡◌ {A = ℕ} 0 1 = cc e in omega arith)
-one_answer l Nothing (At w q) e a b = absurd (let z : ◌≡◌ {A = ℕ} 0 1 = cc e in omega arith)
-one_answer l Nothing Nothing e a b = refl
+pub one_answer : (l : List ℕ) (r s : Option Num) → part_of l r ≡ part_of l s → place_of r ≤ length l → place_of s ≤ length l → r ≡ s
+one_answer l (Some n) (Some m) e a b =
+    let x : drop n.next l ≡ drop m.next l = cc e in
+    let y : n.next ≡ m.next = omega (arith, length-drop n.next l, length-drop m.next l, ap length x) in
+    let z : n.value ≡ m.value = cc e in
+    ap Some (subst (λ (v : ℕ). n ≡ record { value = v; next = m.next }) z (subst (λ (p : ℕ). n ≡ record { value = n.value; next = p }) y refl))
+one_answer l (Some n) None e a b = absurd (cc e)
+one_answer l None (Some m) e a b = absurd (cc e)
+one_answer l None None e a b = refl

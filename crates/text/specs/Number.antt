@@ -1,7 +1,6 @@
 -- A decimal at the front of a list of bytes: its value and the bytes after it. A place p of a line stands for `drop p line`. Assumes nothing.
-use Rattle.std.specs.Prelude.{cond, ℕ, ◌+◌, ◌-◌, ◌*◌, List, [], ◌∷◌, drop, leb, ltb, eqb}
+use Rattle.std.specs.Prelude.{cond, ℕ, ◌+◌, ◌-◌, ◌*◌, List, [], ◌∷◌, drop, leb, ltb, eqb, Option, Some, None}
 use Rattle.text.specs.declared.Num.{Num}
-use Rattle.text.specs.declared.Num.TheVariants.{At, Nothing}
 
 -- the digit that a byte is, or 10
 unfoldable pub digit_of : ℕ → ℕ
@@ -23,15 +22,15 @@ num most [] = none
 num most (x ∷ l) = cond (ltb (digit_of x) 10) (cond (eqb (digit_of x) 0) (got 0 l) (cond (leb (digit_of x) most) (digits most l (digit_of x)) none)) none
 
 -- what the code's answer says of the line: the place is the bytes from there
-abbrev pub part_of : List ℕ → Num → Part
-part_of line (At v p) = got v (drop p line)
-part_of line Nothing = none
+abbrev pub part_of : List ℕ → Option Num → Part
+part_of line (Some n) = got n.value (drop n.next line)
+part_of line None = none
 
 -- the place and the value of the code's answer, 0 where there is none
-abbrev pub place_of : Num → ℕ
-place_of (At v p) = p
-place_of Nothing = 0
+abbrev pub place_of : Option Num → ℕ
+place_of (Some n) = n.next
+place_of None = 0
 
-abbrev pub value_of : Num → ℕ
-value_of (At v p) = v
-value_of Nothing = 0
+abbrev pub value_of : Option Num → ℕ
+value_of (Some n) = n.value
+value_of None = 0

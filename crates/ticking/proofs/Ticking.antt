@@ -3,16 +3,19 @@
 use mathlib.Core.Path.{◌≡◌, refl, sym, ◌∙◌}
 use mathlib.Core.Bool.{Bool, true, false, cond, not, ◌&&◌}
 use mathlib.Core.List.{List}
-use mathlib.Core.Logic.{◌≢◌}
+use mathlib.Core.Logic.{◌≢◌, ◌⊎◌, inl, inr}
 use Prim.Native.Nat.{ℕ, ◌≤◌, ◌<◌}
 use native.Mathlib.Omega.{arith}
 use lib.Dec.{ltb, leb, eqb}
+use Rattle.std.specs.Prelude.{Option, Some, None}
+use Rattle.std.specs.Option.{is_none}
 use lib.ListN.{get_or}
-use borrow.Author.Tests.{leb-true, lt-ltb, lt-leb, le-leb, eqb-true, eqb-false, not-true, not-false}
+use borrow.Author.Tests.{leb-true, lt-ltb, lt-leb, le-leb, not-true, not-false}
 use Rattle.rules.specs.Calls.{timed, answer}
 use Rattle.rules.specs.declared.Event.TheVariants.{Tick as tick}
 use Rattle.rules.specs.Rules.{limits, blocks, in_range, timely, stands, refusal, is_due, on_reset, orders, verdict, ruling, moved, counted, asked, acted, changed, enters, adds}
 use Rattle.rules.proofs.Checks.{and_left}
+use Rattle.refusals.specs.Refusals.{above_zero}
 use Rattle.permits.specs.Permits.{full_for}
 use Rattle.buffer.specs.Places.{DUE}
 use Rattle.buffer.specs.Layout.{spread, rows, row, facts_of, view}
@@ -33,21 +36,26 @@ and_true : (x : Bool) → (x && true) ≡ x
 and_true true = refl
 and_true false = refl
 
-module _ (b : List ℕ) (t : ℕ) {due : ℕ} (d : due ≡ get_or b DUE 0) where
-  pub none_due : due ≡ 0 → false ≡ orders (view b) t
+module _ (b : List ℕ) (t : ℕ) where
+  none_due : get_or b DUE 0 ≡ 0 → false ≡ orders (view b) t
   unfolding orders is_due facts_of
-  none_due z = rw (sym d ∙ z)
+  none_due z = rw z
 
-  pub too_early : t < due → false ≡ orders (view b) t
+  too_early : t < get_or b DUE 0 → false ≡ orders (view b) t
   unfolding orders is_due facts_of
-  too_early h = go (ltb 0 (get_or b DUE 0)) (lt-leb (get_or b DUE 0) t (omega arith)) _ _
+  too_early h = go (ltb 0 (get_or b DUE 0)) (lt-leb (get_or b DUE 0) t h) _ _
     where
       go : (x : Bool) {y : Bool} → y ≡ false → (z u : Bool) → false ≡ (((x && y) && z) && u)
       go true e z u = rw e
       go false e z u = refl
 
+  -- it is not due
+  pub not_due : {A : Type 0} → (get_or b DUE 0 ≡ 0) ⊎ (A × (t < get_or b DUE 0)) → false ≡ orders (view b) t
+  not_due (inl z) = none_due z
+  not_due (inr h) = too_early h.1
+
   -- it is due
-  module _ (set : due ≢ 0) (late : t < due → ⊥) (r : Row) (h : RowOf (limit_at (facts_of b) 5 0) r) where
+  module _ (set : get_or b DUE 0 ≢ 0) (late : get_or b DUE 0 ≤ t) (r : Row) (h : RowOf (limit_at (facts_of b) 5 0) r) where
     rpm : r.applies ≡ eqb (facts_of b).opening.rpm 1
     unfolding limits
     rpm = h.applies ∙ and_true _
@@ -59,18 +67,18 @@ module _ (b : List ℕ) (t : ℕ) {due : ℕ} (d : due ≡ get_or b DUE 0) where
     pub rpm_off : not r.applies ≡ true → false ≡ orders (view b) t
     rpm_off e = sym (by_limits ∙ rw (not-true r.applies e))
 
-    module _ (on : not r.applies ≡ false) (g : good b ≡ true) (past : (facts_of b).last ≤ t) (m : ℕ)
-        (e : m ≡ cond (r.applies && ltb 0 r.most) (full_for t r.most (row b r.list)) 0) where
+    module _ (on : not r.applies ≡ false) (g : good b ≡ true) (past : (facts_of b).last ≤ t) (o : Option ℕ)
+        (e : o ≡ above_zero (cond (r.applies && ltb 0 r.most) (full_for t r.most (row b r.list)) 0)) where
       same : limit_at (facts_of b) 5 0 ≡ on_reset (facts_of b)
       unfolding limits on_reset
       same = rw (sym rpm ∙ not-false r.applies on)
 
-      pub by_N1 : eqb m 0 ≡ orders (view b) t
-      by_N1 = sym (by_limits ∙ rw (not-false r.applies on, ← same) (go (eqb m 0) refl))
+      pub by_N1 : is_none o ≡ orders (view b) t
+      by_N1 = sym (by_limits ∙ rw (not-false r.applies on, ← same) (go o refl))
         where
-          go : (x : Bool) → eqb m 0 ≡ x → not (blocks (view b) t (limit_at (facts_of b) 5 0)) ≡ x
-          go true z = rw (row_off b t 5 0 r h g past m e (eqb-true m 0 z))
-          go false z = rw (row_on b t 5 0 r h g past m e (eqb-false m 0 z)).0
+          go : (x : Option ℕ) → o ≡ x → not (blocks (view b) t (limit_at (facts_of b) 5 0)) ≡ is_none x
+          go None z = rw (row_off b t 5 0 r h g past o e z)
+          go (Some m) z = rw (row_on b t 5 0 r h g past o e m z).0
 
 -- ---- What it leaves
 

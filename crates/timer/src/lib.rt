@@ -2,27 +2,26 @@
 // when the reset is due then.
 #![tactic(auto)]
 
-ghost use Rattle.std.specs.Prelude.{◌≡◌, true, ◌&&◌, ◌+◌, ◌*◌, ◌%◌, ◌≤◌, length, ltb, eqb};
+ghost use Rattle.std.specs.Prelude.{◌≡◌, true, ◌&&◌, ◌+◌, ◌*◌, ◌%◌, ◌≤◌, ltb, eqb};
 ghost use Rattle.rules.specs.declared.Outcome.TheVariants.{Rejected as rejected};
 ghost use Rattle.rules.specs.Tables.{highest_time, permanent};
 ghost use Rattle.rules.specs.Rules.{due_on};
-ghost use Rattle.buffer.specs.Places.{SIZE};
 ghost use Rattle.buffer.specs.Layout.{facts_of};
 ghost use Rattle.buffer.specs.Good.{good};
 
+use buffer::places::Buffer;
 use buffer::{fields, places as at};
 
 // Whether a rejection is "permanent", by RMM6: MM 2, 3, 6; GMM 2, 3, 6, 7, 8.
+#[tactic(auto, unfolding(rules::specs::Tables::permanent))]
 fn permanent(column: u32, cause: u32) -> bool
     ensures { result ≡ permanent column cause }
 {
-    if column == 0 {
-        return (cause == 2) | (cause == 3) | (cause == 6);
+    match column {
+        0 => matches!(cause, 2 | 3 | 6),
+        1 => matches!(cause, 2 | 3 | 6 | 7 | 8),
+        _ => false,
     }
-    if column == 1 {
-        return (cause == 2) | (cause == 3) | (cause == 6) | (cause == 7) | (cause == 8);
-    }
-    false
 }
 
 // How long after it the module is reset, by what the card draws: in the window of a tenth less to a
@@ -32,29 +31,26 @@ fn delay(x: u64, t1: u32) -> u32
     ensures { result ≡ 324 * t1 + x % (72 * t1 + 1) }
 {
     let window = 72 * t1 + 1;
-    324 * t1 + (x % (window as u64)) as u32
+    324 * t1 + (x % u64::from(window)) as u32
 }
 
 // Whether T1 may begin to run: it is above 0, RPM is 1, and no reset is due.
-fn may_run(s: &[u32]) -> bool
-    requires { length s.now ≡ SIZE }
+#[tactic(auto, unfolding(buffer::specs::Layout::facts_of))]
+fn may_run(s: &Buffer) -> bool
     ensures { result ≡ ((ltb 0 (facts_of s.now).opening.T1 && eqb (facts_of s.now).opening.rpm 1) && eqb (facts_of s.now).due 0) }
 {
-    ((0 < s[at::PARAMETERS + 1]) & (s[at::RPM] == 1)) & (fields::due(s) == 0)
+    ((0 < s[at::PARAMETERS + 1]) & (s[at::RPM] == 1)) & (s[at::DUE] == 0)
 }
 
-// The due time after a rejection at t: whether a second network exists does not matter.
-pub fn due(s: &[u32], t: u32, column: u32, cause: u32) -> u32
-    requires s_len { length s.now ≡ SIZE }
+// The due time after a rejection at t, as the number that place 1330 of the table holds: 0 is none.
+// Whether a second network exists does not matter.
+pub fn due(s: &Buffer, t: u32, column: u32, cause: u32) -> u32
     requires s_value { good s.now ≡ true }
     requires t_le_highest_time { t ≤ highest_time }
     ensures { result ≡ due_on t (rejected cause 0 column) (facts_of s.now) }
 {
-    if !permanent(column, cause) {
-        return fields::due(s);
-    }
-    if !may_run(s) {
-        return fields::due(s);
+    if !(permanent(column, cause) & may_run(s)) {
+        return s[at::DUE];
     }
     t + delay(mixing::draw(fields::imsi(s), 0), s[at::PARAMETERS + 1])
 }

@@ -1,4 +1,6 @@
-// What is timed or compared by itself, exported for the programs under bench/ and tests/. Firmware has no use for it.
+// What is timed or compared by itself, exported for the programs under bench/ and tests/. Firmware
+// has no use for it. The C interface needs the old forms here: a buffer is lent as a slice, and
+// what is none elsewhere is answered as 0.
 #![tactic(auto)]
 
 ghost use Rattle.std.specs.Prelude.{◌≡◌, true, ◌≤◌, ◌<◌, length, take};
@@ -29,7 +31,7 @@ pub extern "C" fn timing_is_good(s: &[u32]) -> bool
     inspect::is_good(s)
 }
 
-// For how long a list is full.
+// For how long a list is full; 0 where it is not.
 #[unsafe(no_mangle)]
 pub extern "C" fn timing_full_for(p: &[u32], n: u32, t: u32, most: u32) -> u32
     requires n_in_bounds { n ≤ length p.now }
@@ -37,7 +39,7 @@ pub extern "C" fn timing_full_for(p: &[u32], n: u32, t: u32, most: u32) -> u32
     requires most_nonzero { 0 < most }
     ensures { result ≡ full_for t most (take n p.now) }
 {
-    permits::full_for(p, n, t, most)
+    permits::full_for(p, n, t, most).unwrap_or(0)
 }
 
 // The clock call.
@@ -55,7 +57,7 @@ pub extern "C" fn timing_tick_in(s: &mut [u32], t: u32) -> Answer
     requires s_value { good s.old ≡ true }
     ensures { Says s.old (timed t tick) result s.new }
 {
-    ticking::tick_in(s, t)
+    refusals::told(ticking::tick_in(s.as_mut_array().unwrap(), t))
 }
 
 // A request.
@@ -73,5 +75,5 @@ pub extern "C" fn timing_request_in(s: &mut [u32], t: u32, q: u32) -> Answer
     requires s_value { good s.old ≡ true }
     ensures { Says s.old (timed t (ask q)) result s.new }
 {
-    request::request_in(s, t, q)
+    refusals::told(request::request_in(s.as_mut_array().unwrap(), t, q))
 }

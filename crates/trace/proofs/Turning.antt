@@ -1,4 +1,5 @@
--- One read after the other: what is kept, with what is read next, is what the whole leaves. Assumes nothing.
+-- One read after the other: what is kept, with what is read next, is what the whole leaves. Assumes
+-- nothing.
 use mathlib.Core.Path.{◌≡◌, sym, ap, ◌∙◌}
 use mathlib.Core.Bool.{Bool, true, false, false≢true}
 use mathlib.Core.List.{List, [], ◌++◌, append_assoc}

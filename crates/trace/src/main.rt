@@ -1,4 +1,5 @@
-// The trace program: reads trace lines from standard input and writes the answer to each to standard output. Before any `O` the buffer is all 0.
+// The trace program: reads trace lines from standard input and writes the answer to each to
+// standard output. Before any `O` the buffer is all 0.
 //
 // A line may stand across reads; the last one may lack its LF. What waits is written before the
 // next read, so that one who types lines sees the answers. The memory used does not grow with the
@@ -8,28 +9,28 @@
 
 ghost use Rattle.std.specs.Prelude.{◌+◌, ◌≤◌, ◌≡◌, not, ◌&&◌, length, eqb};
 ghost use Rattle.std.proofs.Math.Seq.{slice};
-ghost use Rattle.buffer.specs.Places.{SIZE};
 ghost use Rattle.answering.specs.Known.{Known};
 ghost use Rattle.answering.specs.Cut.{Answered, Turned, SomeTurned, Whole};
 
-use answering::{Carry, Left};
+use answering::{Carry, Left, Room};
 use buffer::places;
+use buffer::places::Buffer;
 use std::env::Env;
 use std::fs::{File, OpenOptions};
 use std::io::{Read, Write};
 use std::{fs, io};
 
-// Cuts the whole input into lines, answers each, and writes the answers out.
+// Cuts the whole input into lines, answers each, and writes the answers out. The loop is a `while`:
+// a turn goes on by what `cut` has passed.
 fn all(
     rt: &HostRuntime,
     state: &mut [u32],
     buf: &[u8],
     end: usize,
-    out: &mut [u8],
+    out: &mut Room,
     c: Carry,
 ) -> Left
     requires known { Known c.known state.old }
-    requires out_len { length out.old ≡ 65536 }
     requires held_le_end { (c.held ≤ end) × (end ≤ length buf.now) }
     ensures start_bound { (result.«start» ≤ result.place) × ((result.place ≤ end) × Known result.known state.new) }
     ensures answered { Answered buf.now end c.skip c.held state.old result state.new }
@@ -44,43 +45,35 @@ fn all(
     };
     while left.place < end && left.sent {
         let cut = answering::cut(state, buf, end, out, left);
-        let fill = cut.fill;
-        let sent = rt.stdout().write_all(&out[0..fill]).is_ok();
+        let sent = rt.stdout().write_all(&out[..cut.fill]).is_ok();
         left = Left {
-            start: cut.start,
-            place: cut.place,
-            skip: cut.skip,
             fill: 0,
-            known: cut.known,
             sent,
+            ..cut
         };
     }
     left
 }
 
-// Reads once; 0 at the end of the input, and where it cannot be read.
+// Reads once; 0 at the end of the input, as of any read, and where it cannot be read.
 fn take(rt: &HostRuntime, buf: &mut [u8]) -> usize
     ensures { result ≤ length buf.old }
 {
-    match rt.stdin().read(buf) {
-        Ok(n) => n,
-        Err(_) => 0,
-    }
+    rt.stdin().read(buf).unwrap_or(0)
 }
 
-// Answers the lines of n bytes that came after those that are held; where none came the input has ended. It goes on while bytes come and all writes
-// go well.
+// Answers the lines of n bytes that came after those that are held; where none came the input has
+// ended. It goes on while bytes come and all writes go well.
 fn arrived(
     rt: &HostRuntime,
     state: &mut [u32],
     buf: &mut [u8],
     n: usize,
-    out: &mut [u8],
+    out: &mut Room,
     c: Carry,
 ) -> Carry
     requires known { Known c.known state.old }
     requires n_in_bounds { c.held + n ≤ length buf.old }
-    requires out_len { length out.old ≡ 65536 }
     ensures held_bound { (result.held ≤ 256) × Known result.known state.new }
     ensures more_value { result.more ≡ (not (eqb n 0) && result.sent) }
     ensures turned { Turned c.skip c.held buf.old (slice c.held (c.held + n) buf.old) state.old result buf.new state.new }
@@ -88,7 +81,7 @@ fn arrived(
     let ended = n == 0;
     if ended {
         let fill = answering::finish(state, buf, out, c);
-        let sent = rt.stdout().write_all(&out[0..fill]).is_ok();
+        let sent = rt.stdout().write_all(&out[..fill]).is_ok();
         return Carry {
             held: 0,
             skip: false,
@@ -102,27 +95,22 @@ fn arrived(
 }
 
 // Reads once, and answers the lines that came.
-fn turn(rt: &HostRuntime, state: &mut [u32], buf: &mut [u8], out: &mut [u8], c: Carry) -> Carry
+fn turn(rt: &HostRuntime, state: &mut [u32], buf: &mut Room, out: &mut Room, c: Carry) -> Carry
     requires known { Known c.known state.old }
-    requires buf_len { length buf.old ≡ 65536 }
-    requires out_len { length out.old ≡ 65536 }
     requires held_bound { c.held ≤ 256 }
     ensures held_bound_2 { (result.held ≤ 256) × Known result.known state.new }
     ensures some_turned { SomeTurned c.skip c.held buf.old state.old result buf.new state.new }
 {
-    let held = c.held;
-    let n = take(rt, &mut buf[held..]);
+    let n = take(rt, &mut buf[c.held..]);
     arrived(rt, state, buf, n, out, c)
 }
 
-// Answers the whole input, one read after the other; whether all of it was answered and written. A proved loop has to end, and nothing says that the
-// input does: so it counts its turns down from a number that no run uses up.
-fn run(rt: &HostRuntime, state: &mut [u32], buf: &mut [u8], out: &mut [u8]) -> bool
-    requires buf_len { length buf.old ≡ 65536 }
-    requires out_len { length out.old ≡ 65536 }
+// Answers the whole input, one read after the other; whether all of it was answered and written. A
+// proved loop has to end, and nothing says that the input does: so it counts its turns, up to a
+// number that no run uses up.
+fn run(rt: &HostRuntime, state: &mut [u32], buf: &mut Room, out: &mut Room) -> bool
     ensures { Whole result state.old state.new }
 {
-    let mut turns = u64::MAX;
     let mut c = Carry {
         held: 0,
         skip: false,
@@ -130,11 +118,13 @@ fn run(rt: &HostRuntime, state: &mut [u32], buf: &mut [u8], out: &mut [u8]) -> b
         more: true,
         sent: true,
     };
-    while turns > 0 && c.more {
+    for _ in 0..u64::MAX {
+        if !c.more {
+            break;
+        }
         c = turn(rt, state, buf, out, c);
-        turns -= 1;
     }
-    !c.more & c.sent
+    !c.more && c.sent
 }
 
 // The file could not be written: it is told why, and what was begun is taken away.
@@ -155,9 +145,7 @@ fn create(rt: &HostRuntime, name: &[u8]) -> io::Result<File> {
 }
 
 // Writes the buffer to an open file, and sees it on the disk.
-fn fill(mut file: File, state: &[u32]) -> io::Result<()>
-    requires { length state.now ≡ SIZE }
-{
+fn fill(mut file: File, state: &Buffer) -> io::Result<()> {
     let mut bytes = [0u8; places::BYTES];
     image::write(state, &mut bytes);
     file.write_all(&bytes)?;
@@ -172,9 +160,8 @@ fn give(rt: &HostRuntime, name: &[u8], n: usize) -> io::Result<()>
 }
 
 // Writes the buffer to a new file, and then gives it the name of the first n bytes of its own.
-fn store(rt: &HostRuntime, state: &[u32], name: &[u8], n: usize)
-    requires state_len { length state.now ≡ SIZE }
-    requires n_in_bounds { n ≤ length name.now }
+fn store(rt: &HostRuntime, state: &Buffer, name: &[u8], n: usize)
+    requires { n ≤ length name.now }
 {
     let file = match create(rt, name) {
         Ok(file) => file,
@@ -193,9 +180,7 @@ fn store(rt: &HostRuntime, state: &[u32], name: &[u8], n: usize)
 }
 
 // Writes the buffer to the file that argument 2 names, by way of a new one beside it, FILE.new.
-fn save(rt: &HostRuntime, state: &[u32])
-    requires { length state.now ≡ SIZE }
-{
+fn save(rt: &HostRuntime, state: &Buffer) {
     let mut name = [0u8; 4096];
     let n = match rt.arg(2, &mut name) {
         Ok(n) => n,
@@ -204,35 +189,28 @@ fn save(rt: &HostRuntime, state: &[u32])
             return;
         }
     };
-    let m = files::beside(&mut name, n);
-    if m == 0 {
+    let Some(m) = files::beside(&mut name, n) else {
         let _ = rt
             .stderr()
             .write_all(b"trace: FILE: the name is too long\n");
         return;
-    }
+    };
     store(rt, state, &name[..m], n);
 }
 
 // Whether argument 1 is `--state`, with one more after it.
 fn saves(rt: &impl Env) -> bool {
     let mut word = [0u8; 7];
-    let whole = match rt.arg(1, &mut word) {
-        Ok(n) => n == 7,
+    let named = match rt.arg(1, &mut word) {
+        Ok(n) => &word[..n] == b"--state".as_slice(),
         Err(_) => false,
     };
-    let dashes = (word[0] == b'-') & (word[1] == b'-');
-    let name = (word[2] == b's')
-        & (word[3] == b't')
-        & (word[4] == b'a')
-        & (word[5] == b't')
-        & (word[6] == b'e');
-    whole & dashes & name & host::has_arg(rt, 2) & !host::has_arg(rt, 3)
+    named && host::has_arg(rt, 2) && !host::has_arg(rt, 3)
 }
 
 fn main(rt: HostRuntime) {
     let keep = saves(&rt);
-    if !keep & host::has_arg(&rt, 1) {
+    if !keep && host::has_arg(&rt, 1) {
         let _ = rt.stderr().write_all(b"trace [--state FILE]\n");
         return;
     }

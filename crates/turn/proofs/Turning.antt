@@ -3,12 +3,10 @@ use mathlib.Core.Path.{◌≡◌, sym, ap, ◌∙◌}
 use mathlib.Core.List.{List, []}
 use mathlib.Core.Logic.{◌≢◌}
 use Prim.Native.Nat.{ℕ, ◌*◌}
-use native.Mathlib.Omega.{arith}
-use lib.ListN.{length, take}
-use lib.Seq.{take_all}
+use lib.ListN.{length}
 use borrow.Author.Tests.{eq-eqb, ne_eqb}
 use Rattle.rules.specs.declared.Answer.{Answer}
-use Rattle.buffer.specs.Places.{SIZE, BASE, BYTES}
+use Rattle.buffer.specs.Places.{SIZE, BASE}
 use Rattle.turning.specs.Turning.{good1, turned, TurnSays}
 use Rattle.turning.proofs.Turned.{accepted, refused_old}
 use Rattle.image.specs.Image.{image_of, numbers_of}
@@ -27,9 +25,9 @@ module _ (bytes : List ℕ) where
     refused room n = rw (eq-eqb (length bytes) (4 * BASE) long, sym (ap good1 e) ∙ refused_old s room n)
 
     -- or turns it
-    pub turned_over : r.number ≡ 0 → {y : List ℕ} → y ≡ image_of x → length y ≡ BYTES → take BYTES y ≡ turned_image bytes
+    pub turned_over : r.number ≡ 0 → {y : List ℕ} → y ≡ image_of x → y ≡ turned_image bytes
     unfolding turned_image
-    turned_over z {y} d full =
+    turned_over z {y} d =
         let a = accepted s z in
         rw (eq-eqb (length bytes) (4 * BASE) long, sym (ap good1 e) ∙ a.0)
-        (take_all BYTES y (omega (arith, full)) ∙ d ∙ ap image_of (a.1 ∙ ap turned e))
+        (d ∙ ap image_of (a.1 ∙ ap turned e))

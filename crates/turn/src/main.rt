@@ -4,41 +4,36 @@
 // there.
 #![tactic(auto)]
 
-ghost use Rattle.std.specs.Prelude.{◌≡◌, ◌≤◌, length, take};
-ghost use Rattle.buffer.specs.Places.{BYTES};
-ghost use Rattle.turn.specs.Turned.{turned_image};
+ghost use Rattle.std.specs.Prelude.{◌≡◌};
+ghost use Rattle.turn.specs.Turned.{written, turned_image};
 
 use buffer::places;
 use std::io;
 
-// Writes the bytes of what a state turns into, and answers how many: none where it is refused.
-fn answer(bytes: &[u8], out: &mut [u8]) -> usize
-    requires { length out.old ≡ BYTES }
-    ensures out_after { take result out.new ≡ turned_image bytes.now }
-    ensures upper_bound { result ≤ BYTES }
+// The bytes of what a state turns into: none where it is refused.
+fn answer(bytes: &[u8]) -> Option<[u8; places::BYTES]>
+    ensures { written result ≡ turned_image bytes.now }
 {
     if bytes.len() != 4 * places::BASE {
-        return 0;
+        return None;
     }
-    let mut old = [0u32; places::BASE];
+    let mut old = [0; places::BASE];
     image::read(bytes, &mut old);
-    let mut state = [0u32; places::SIZE];
-    let a = turning::turn(&old, &mut state);
-    let refused = a.number != 0;
+    let mut state = [0; places::SIZE];
+    let refused = turning::turn(&old, &mut state).number != 0;
     if refused {
-        return 0;
+        return None;
     }
-    image::write(&state, out);
-    places::BYTES
+    let mut out = [0; places::BYTES];
+    image::write(&state, &mut out);
+    Some(out)
 }
 
 fn main(rt: HostRuntime) -> io::Result<()> {
-    let mut bytes = [0u8; 4 * places::BASE + 1];
+    let mut bytes = [0; 4 * places::BASE + 1];
     let n = host::read_full(&mut rt.stdin(), &mut bytes)?;
-    let mut out = [0u8; places::BYTES];
-    let m = answer(&bytes[..n], &mut out);
-    if m == 0 {
-        return rt.stderr().write_all(b"turn: no good state of version 1\n");
+    match answer(&bytes[..n]) {
+        Some(out) => rt.stdout().write_all(&out),
+        None => rt.stderr().write_all(b"turn: no good state of version 1\n"),
     }
-    rt.stdout().write_all(&out[..m])
 }

@@ -7,10 +7,8 @@ use mathlib.Core.Logic.{◌≢◌}
 use Prim.Native.Nat.{ℕ, zero, suc, ◌+◌, ◌*◌, ◌^◌, ◌-◌, ◌≤◌, ◌<◌}
 use native.Mathlib.Omega.{arith}
 use lib.Dec.{lit<, lit≤, ltb, eqb}
-use lib.ListN.{length, get_or, take, drop, set, length-drop, length-set, length-append, get_or-append, get_or-eq_default}
-use native.Mathlib.Nat.{zero-add}
-use native.Mathlib.Numerals.{add-one}
-use lib.Seq.{take_all, set-append_left, paste-suc, get_or-set_same, get_or-set_other, get_or-append-add}
+use lib.ListN.{length, get_or, drop, set, length-drop, length-set, length-append, get_or-append, get_or-eq_default}
+use lib.Seq.{set-append_left, get_or-set_same, get_or-set_other, get_or-append-add}
 use borrow.Author.Tests.{ltb-true, ltb-false, eqb-true, eq-eqb, ne_eqb, not-true, not-false}
 use Rattle.rules.specs.declared.Answer.{Answer}
 use Rattle.rules.specs.Calls.{answer}
@@ -217,17 +215,13 @@ one_place (x ∷ []) h = refl
 one_place (x ∷ y ∷ d) h = absurd (omega arith)
 
 module _ (s x : List ℕ) (ls : length s ≡ BASE) (lx : length x ≡ SIZE) where
-  pub copy_next : (i : ℕ) → i < BASE → set (take i s ++ drop i x) i (get_or s i 0) ≡ take (i + 1) s ++ drop (i + 1) x
-  copy_next i h = rw add-one (simp zero-add at (paste-suc x 0 s i 0 (omega (arith, lx)) (omega (arith, ls))))
-
-  pub copy_end : set (set (take BASE s ++ drop BASE x) VERSION CURRENT) DUE 0 ≡ turned s
+  pub copy_end : set (set (s ++ drop BASE x) VERSION CURRENT) DUE 0 ≡ turned s
   unfolding turned
   copy_end =
       let d = drop BASE x in
       let front = set s VERSION CURRENT in
       let due : length front + 0 ≡ DUE = omega (arith, length-set s VERSION CURRENT, ls) in
-      ap (λ (l : List ℕ). set (set (l ++ d) VERSION CURRENT) DUE 0) (take_all BASE s (omega (arith, ls)))
-      ∙ ap (λ (l : List ℕ). set l DUE 0) (set-append_left s d VERSION CURRENT (omega (arith, ls)))
+      ap (λ (l : List ℕ). set l DUE 0) (set-append_left s d VERSION CURRENT (omega (arith, ls)))
       ∙ ap (λ (n : ℕ). set (front ++ d) n 0) (sym due)
       ∙ set_append_add front d 0 0
       ∙ ap (λ (l : List ℕ). front ++ l) (one_place d (simp length-drop (omega (arith, lx))))
@@ -246,6 +240,15 @@ module _ (old b : List ℕ) where
   pub says_0 : turns old b ≡ true → {x : List ℕ} → x ≡ turned old → TurnSays old b (answer 0 0) x
   says_0 h e = record { answered = rw h; left = rw h e }
 
+  -- another length is no buffer of version 1
+  pub no_length : (length old ≡ BASE → ⊥) → turns old b ≡ false
+  unfolding turns
+  no_length n = go (good1 old) refl
+    where
+      go : (x : Bool) → good1 old ≡ x → (good1 old && eqb (length b) SIZE) ≡ false
+      go true e = absurd (n (long1 old e))
+      go false e = rw e
+
   module _ {g : Bool} (d : g ≡ good_as BASE 1 old) where
     pub no_version_1 : not g ≡ true → turns old b ≡ false
     unfolding turns good1
@@ -254,9 +257,6 @@ module _ (old b : List ℕ) where
     is_version_1 : not g ≡ false → good1 old ≡ true
     unfolding good1
     is_version_1 h = sym d ∙ not-false g h
-
-    pub long_enough : not g ≡ false → length old ≡ BASE
-    long_enough h = long1 old (is_version_1 h)
 
     pub no_room : not g ≡ false → (length b ≡ SIZE → ⊥) → turns old b ≡ false
     unfolding turns

@@ -2,24 +2,19 @@
 // written. It needs no time.
 #![tactic(auto)]
 
-ghost use Rattle.std.specs.Prelude.{◌≡◌, length};
-ghost use Rattle.buffer.specs.Places.{SIZE, BASE};
+ghost use Rattle.std.specs.Prelude.{◌≡◌};
 ghost use Rattle.turning.specs.Turning.{turned, TurnSays};
 
 use buffer::places as at;
+use buffer::places::Buffer;
+use refusals::{DONE, Refusal};
 use rules::Answer;
 
 // The places of version 1, then the version and the due time.
-fn copy(old: &[u32], s: &mut [u32])
-    requires len { length old.now ≡ BASE }
-    requires s_len { length s.old ≡ SIZE }
+fn copy(old: &[u32; at::BASE], s: &mut Buffer)
     ensures { s.new ≡ turned old.now }
 {
-    let mut i: usize = 0;
-    while i < at::BASE {
-        s[i] = old[i];
-        i += 1;
-    }
+    s[..at::BASE].copy_from_slice(old);
     s[at::VERSION] = at::CURRENT;
     s[at::DUE] = 0;
 }
@@ -29,21 +24,15 @@ fn copy(old: &[u32], s: &mut [u32])
 pub fn turn(old: &[u32], s: &mut [u32]) -> Answer
     ensures { TurnSays old.now s.old result s.new }
 {
+    let Some(places) = old.as_array() else {
+        return Refusal::Buffer.into();
+    };
     if !inspect::is_good_as(old, at::BASE, 1) {
-        return Answer {
-            number: 1,
-            second: 0,
-        };
+        return Refusal::Buffer.into();
     }
-    if s.len() != at::SIZE {
-        return Answer {
-            number: 1,
-            second: 0,
-        };
-    }
-    copy(old, s);
-    Answer {
-        number: 0,
-        second: 0,
-    }
+    let Some(room) = s.as_mut_array() else {
+        return Refusal::Buffer.into();
+    };
+    copy(places, room);
+    DONE
 }

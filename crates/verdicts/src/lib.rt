@@ -1,68 +1,62 @@
 // The answer to any timed call, on a buffer that is known to be good, by reading alone.
 #![tactic(auto)]
 
-ghost use Rattle.std.specs.Prelude.{◌≡◌, true, length};
+ghost use Rattle.std.specs.Prelude.{◌≡◌, true, is_err};
 ghost use Rattle.rules.specs.Calls.{timed};
 ghost use Rattle.rules.specs.declared.Event.TheVariants.{Outcome as outcome, Dropped as dropped, Tick as tick};
 ghost use Rattle.rules.specs.declared.Outcome.TheVariants.{Granted as granted, Silent as silent, Rejected as rejected};
-ghost use Rattle.rules.specs.Rules.{ruling};
-ghost use Rattle.buffer.specs.Places.{SIZE};
+ghost use Rattle.rules.specs.Rules.{ruling, refused};
+ghost use Rattle.refusals.specs.Refusals.{told};
 ghost use Rattle.buffer.specs.Layout.{view};
 ghost use Rattle.buffer.specs.Good.{good};
 
-use buffer::fields;
+use buffer::places as at;
+use buffer::places::Buffer;
+use refusals::{DONE, Refusal};
 use rules::{Answer, Event, Outcome};
 
-// The answer to a grant: the number of the first check that it fails, 0 if none.
-fn of_granted(s: &[u32], t: u32, service: u32) -> Answer
-    requires s_len { length s.now ≡ SIZE }
-    requires s_value { good s.now ≡ true }
-    ensures { result ≡ ruling (view s.now) (timed t (outcome service granted)) }
+// The answer to a grant, which has nothing to say unless a check fails.
+fn of_granted(s: &Buffer, t: u32, number: u32) -> Result<Answer, Refusal>
+    requires { good s.now ≡ true }
+    ensures value { told result ≡ ruling (view s.now) (timed t (outcome number granted)) }
+    ensures refused { refused (told result) ≡ is_err result }
 {
-    Answer {
-        number: outcome::checks(s, t, service <= 3, service),
-        second: 0,
-    }
+    outcome::checks(s, t, number <= 3, number).and(Ok(DONE))
 }
 
 // The answer to silence: as to a failure whose action is 20, unless a check fails.
-fn of_silent(s: &[u32], t: u32, service: u32) -> Answer
-    requires s_len { length s.now ≡ SIZE }
-    requires s_value { good s.now ≡ true }
-    ensures { result ≡ ruling (view s.now) (timed t (outcome service silent)) }
+fn of_silent(s: &Buffer, t: u32, number: u32) -> Result<Answer, Refusal>
+    requires { good s.now ≡ true }
+    ensures value { told result ≡ ruling (view s.now) (timed t (outcome number silent)) }
+    ensures refused { refused (told result) ≡ is_err result }
 {
-    let n = outcome::checks(s, t, service <= 3, service);
-    if n != 0 {
-        return Answer {
-            number: n,
-            second: 0,
-        };
-    }
-    backoff::failing(s, service as usize, 20)
+    let service = outcome::checks(s, t, number <= 3, number)?;
+    Ok(backoff::failing(s, service, 20))
 }
 
 // The answer to a rejection: as to a failure with the action of its cause, unless a check fails. A
 // cause on which both registrations back off has action 20 too.
-fn of_rejected(s: &[u32], t: u32, service: u32, cause: u32, second: u32, column: u32) -> Answer
-    requires s_len { length s.now ≡ SIZE }
-    requires s_value { good s.now ≡ true }
-    ensures { result ≡ ruling (view s.now) (timed t (outcome service (rejected cause second column))) }
+fn of_rejected(
+    s: &Buffer,
+    t: u32,
+    number: u32,
+    cause: u32,
+    second: u32,
+    column: u32,
+) -> Result<Answer, Refusal>
+    requires { good s.now ≡ true }
+    ensures value { told result ≡ ruling (view s.now) (timed t (outcome number (rejected cause second column))) }
+    ensures refused { refused (told result) ≡ is_err result }
 {
-    let n = outcome::checks(s, t, outcome::told(service, cause, second, column), service);
-    if n != 0 {
-        return Answer {
-            number: n,
-            second: 0,
-        };
-    }
-    backoff::failing(s, service as usize, causes::action(column, cause, second))
+    let service = outcome::checks(s, t, outcome::told(number, cause, second, column), number)?;
+    Ok(backoff::failing(s, service, causes::action(column, cause, second)))
 }
 
 // The answer to an outcome of a service.
-fn of_outcome(s: &[u32], t: u32, service: u32, o: Outcome) -> Answer
-    requires s_len { length s.now ≡ SIZE }
-    requires s_value { good s.now ≡ true }
-    ensures { result ≡ ruling (view s.now) (timed t (outcome service o)) }
+fn of_outcome(s: &Buffer, t: u32, service: u32, o: Outcome) -> Result<Answer, Refusal>
+    requires { good s.now ≡ true }
+    ensures value { told result ≡ ruling (view s.now) (timed t (outcome service o)) }
+    ensures refused { refused (told result) ≡ is_err result }
 {
     match o {
         Outcome::Granted => of_granted(s, t, service),
@@ -73,47 +67,38 @@ fn of_outcome(s: &[u32], t: u32, service: u32, o: Outcome) -> Answer
     }
 }
 
-// The answer to service 2 dropped: the number of the first check that it fails, 0 if none.
-fn of_dropped(s: &[u32], t: u32) -> Answer
-    requires s_len { length s.now ≡ SIZE }
-    requires s_value { good s.now ≡ true }
-    ensures { result ≡ ruling (view s.now) (timed t dropped) }
+// The answer to service 2 dropped, which has nothing to say unless a check fails.
+fn of_dropped(s: &Buffer, t: u32) -> Result<Answer, Refusal>
+    requires { good s.now ≡ true }
+    ensures value { told result ≡ ruling (view s.now) (timed t dropped) }
+    ensures refused { refused (told result) ≡ is_err result }
 {
-    Answer {
-        number: clock::refuse(true, clock::timely(s, t), fields::standing(s, 2) == 2),
-        second: 0,
-    }
+    clock::refuse(true, clock::timely(s, t), s[at::STANDING + 2] == 2).and(Ok(DONE))
 }
 
 // The answer to the clock call: 12 where a reset is ordered, unless the time is refused.
-fn of_tick(s: &[u32], t: u32) -> Answer
-    requires s_len { length s.now ≡ SIZE }
-    requires s_value { good s.now ≡ true }
-    ensures { result ≡ ruling (view s.now) (timed t tick) }
+fn of_tick(s: &Buffer, t: u32) -> Result<Answer, Refusal>
+    requires { good s.now ≡ true }
+    ensures value { told result ≡ ruling (view s.now) (timed t tick) }
+    ensures refused { refused (told result) ≡ is_err result }
 {
     if !clock::timely(s, t) {
-        return Answer {
-            number: 3,
-            second: 0,
-        };
+        return Err(Refusal::Time);
     }
     if ticking::orders(s, t) {
-        return Answer {
+        return Ok(Answer {
             number: 12,
             second: 0,
-        };
+        });
     }
-    Answer {
-        number: 0,
-        second: 0,
-    }
+    Ok(DONE)
 }
 
 // The answer to what happens at t.
-pub fn verdict(s: &[u32], t: u32, e: Event) -> Answer
-    requires s_len { length s.now ≡ SIZE }
-    requires s_value { good s.now ≡ true }
-    ensures { result ≡ ruling (view s.now) (timed t e) }
+pub fn verdict(s: &Buffer, t: u32, e: Event) -> Result<Answer, Refusal>
+    requires { good s.now ≡ true }
+    ensures value { told result ≡ ruling (view s.now) (timed t e) }
+    ensures refused { refused (told result) ≡ is_err result }
 {
     match e {
         Event::Ask(q) => deciding::decide(s, t, q),

@@ -5,7 +5,7 @@ use Prim.Native.Nat.{ℕ, ◌+◌, ◌/◌, ◌%◌, ◌≤◌, ◌<◌}
 use native.Mathlib.Omega.{arith}
 use native.Mathlib.Numerals.{add-one}
 use lib.Dec.{eqb}
-use lib.ListN.{length, get_or, take, drop, drop_of_length-le}
+use lib.ListN.{length, get_or, take, drop}
 use lib.Seq.{sets, drop-cons, drop-drop, get_or-drop}
 use Rattle.image.proofs.Imaging.{front}
 use Rattle.text.specs.Number.{got, none}
@@ -36,9 +36,6 @@ module _ (m i : ℕ) (times : List ℕ) (h : i < 8) where
 pub written : (out x y : List ℕ) (r : ℕ) → x ≡ sets out 0 y → r ≡ 0 + length y → 0 + length y ≤ length out → take r x ≡ y
 written out x y r e n h = (λ i. take (n i) (e i)) ∙ front out 0 y h
 
--- a number that is followed by more, and one that is the whole word
+-- a number that is followed by more
 pub whole_more : (word : List ℕ) (n end : ℕ) → end < length word → whole_of (got n (drop end word)) ≡ none
 whole_more word n end h = rw (drop-cons word end 0 h)
-
-pub whole_all : (word : List ℕ) (n end : ℕ) → length word ≤ end → whole_of (got n (drop end word)) ≡ got n (drop end word)
-whole_all word n end h = rw (drop_of_length-le word {i = end} h)

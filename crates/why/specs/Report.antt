@@ -1,4 +1,5 @@
--- What the program prints of a request, byte by byte, from the bytes of the file that holds the state. Assumes nothing.
+-- What the program prints of a request, byte by byte, from the bytes of the file that holds the
+-- state. Assumes nothing.
 use Rattle.std.specs.Prelude.{Bool, cond, List, [], ◌∷◌, ◌++◌, ℕ, ◌/◌, ◌%◌, eqb, length, get_or, drop}
 use Rattle.text.specs.Number.{Part, got, none}
 use Rattle.text.specs.Printed.{print_num, print_two}
@@ -7,10 +8,9 @@ use Rattle.reasons.specs.declared.said.Why.{Why}
 use Rattle.rules.specs.Tables.{rules}
 use Rattle.buffer.specs.Places.{BYTES}
 use Rattle.reasons.specs.Why.{refused_by, why_of}
-use Rattle.why.specs.declared.Loaded.{Loaded}
-use Rattle.why.specs.declared.Loaded.TheVariants.{Bytes, Not}
 
--- a line for a rule that stands: the back-off's number alone, a limit's with the time that has to leave
+-- a line for a rule that stands: the back-off's number alone, a limit's with the time that has to
+-- leave
 abbrev pub line_if : Bool → ℕ → ℕ → List ℕ
 line_if stands n t = cond stands (cond (eqb n 10) (print_num n ++ (10 ∷ [])) (print_two n t)) []
 
@@ -37,8 +37,3 @@ abbrev pub whole_of : Part → Part
 whole_of (got n []) = got n []
 whole_of (got n (x ∷ l)) = none
 whole_of none = none
-
--- how many bytes were read, and 0 where none could be
-abbrev pub count_of : Loaded → ℕ
-count_of (Bytes n) = n
-count_of Not = 0

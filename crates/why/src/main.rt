@@ -4,11 +4,11 @@
 // with the permit time that has to leave the hour. A refusal is its number and 0.
 #![tactic(auto)]
 
-ghost use Rattle.std.specs.Prelude.{◌≡◌, ◌++◌, ◌+◌, ◌≤◌, length, take, IfOk};
+ghost use Rattle.std.specs.Prelude.{◌≡◌, ◌++◌, ◌+◌, ◌≤◌, length, take, IfOk, IfSome};
 ghost use Rattle.std.proofs.lemmas.List.Edits.{sets};
 ghost use Rattle.text.specs.Number.{num, part_of, value_of};
 ghost use Rattle.rules.specs.Tables.{rules};
-ghost use Rattle.why.specs.Report.{line_if, lines_for, report, report_on, highest, whole_of, count_of};
+ghost use Rattle.why.specs.Report.{line_if, lines_for, report, report_on, highest, whole_of};
 
 use buffer::places;
 use reasons::said::Why;
@@ -17,13 +17,6 @@ use std::io::Read;
 use std::rt::Files;
 use std::{fs, io};
 use text::Num;
-
-// How many bytes of a file there are, or that it could not be read.
-#[derive(Clone, Copy)]
-enum Loaded {
-    Bytes(usize),
-    Not,
-}
 
 // Writes the line of a rule, if it stands, from a place on, and answers the place after it.
 fn line(out: &mut [u8], at: usize, stands: bool, n: u32, time: u32) -> usize
@@ -51,11 +44,9 @@ fn lines(out: &mut [u8], at: usize, bits: u32, times: [u32; 8]) -> usize
 {
     let mut next = at;
     let mut left = bits;
-    let mut i: usize = 0;
-    while i < 8 {
-        next = line(out, next, left % 2 == 1, reasons::NUMBERS[i], times[i]);
-        left = left / 2;
-        i += 1;
+    for (i, &n) in reasons::NUMBERS.iter().enumerate() {
+        next = line(out, next, left % 2 == 1, n, times[i]);
+        left /= 2;
     }
     next
 }
@@ -70,8 +61,7 @@ fn tell(out: &mut [u8], w: Why) -> usize
         return text::put_two(out, 0, w.refusal, 0);
     }
     let at = text::put_two(out, 0, w.first, w.count);
-    let times = w.times;
-    lines(out, at, w.bits, times)
+    lines(out, at, w.bits, w.times)
 }
 
 // The same from the bytes of the file.
@@ -89,30 +79,21 @@ fn answer(bytes: &[u8], time: u32, kind: u32, out: &mut [u8]) -> usize
 }
 
 // A word that is a decimal up to 4,294,967,295, and nothing more.
-fn whole(word: &[u8]) -> Num
+fn whole(word: &[u8]) -> Option<Num>
     ensures { (part_of word.now result ≡ whole_of (num highest word.now)) × (value_of result ≤ highest) }
 {
-    let found = text::decimal(word, 0, 4294967295);
-    match found {
-        Num::At(n, end) => {
-            if end < word.len() {
-                return Num::Nothing;
-            }
-            Num::At(n, end)
-        }
-        Num::Nothing => Num::Nothing,
+    let found = text::decimal(word, 0, 4294967295)?;
+    if found.next < word.len() {
+        return None;
     }
+    Some(found)
 }
 
 // Argument i as such a number.
-fn number(rt: &impl Env, i: usize) -> Num
-    ensures { value_of result ≤ highest }
-{
+fn number(rt: &impl Env, i: usize) -> Option<u32> {
     let mut word = [0u8; 16];
-    match rt.arg(i, &mut word) {
-        Ok(n) => whole(&word[..n]),
-        Err(_) => Num::Nothing,
-    }
+    let n = rt.arg(i, &mut word).ok()?;
+    Some(whole(&word[..n])?.value as u32)
 }
 
 // The first bytes of a file, as many as there is room for. A file that goes on has to be readable
@@ -127,23 +108,24 @@ fn front(rt: &impl Files, name: &[u8], room: &mut [u8]) -> io::Result<usize>
     Ok(got)
 }
 
-// The first bytes of the file that argument 1 names, as many as there is room for; or it is told why not.
-fn load(rt: &HostRuntime, room: &mut [u8]) -> Loaded
-    ensures { count_of result ≤ length room.new }
+// The first bytes of the file that argument 1 names, as many as there is room for; or it is told
+// why not.
+fn load(rt: &HostRuntime, room: &mut [u8]) -> Option<usize>
+    ensures { IfSome result (λ n. n ≤ length room.new) }
 {
     let mut path = [0u8; 4096];
     let n = match rt.arg(1, &mut path) {
         Ok(n) => n,
         Err(why) => {
             host::fail(&mut rt.stderr(), b"why: STATE", host::no_arg(why));
-            return Loaded::Not;
+            return None;
         }
     };
     match front(rt, &path[..n], room) {
-        Ok(got) => Loaded::Bytes(got),
+        Ok(got) => Some(got),
         Err(why) => {
             host::fail(&mut rt.stderr(), &path[..n], why);
-            Loaded::Not
+            None
         }
     }
 }
@@ -151,7 +133,7 @@ fn load(rt: &HostRuntime, room: &mut [u8]) -> Loaded
 // Reads the state, and prints what stands against request `kind` at `time`.
 fn say(rt: &HostRuntime, time: u32, kind: u32) -> io::Result<()> {
     let mut bytes = [0u8; places::BYTES + 1];
-    let Loaded::Bytes(n) = load(rt, &mut bytes) else {
+    let Some(n) = load(rt, &mut bytes) else {
         return Ok(());
     };
     let mut out = [0u8; 198];
@@ -160,18 +142,18 @@ fn say(rt: &HostRuntime, time: u32, kind: u32) -> io::Result<()> {
 }
 
 fn main(rt: HostRuntime) -> io::Result<()> {
-    if !host::has_arg(&rt, 3) | host::has_arg(&rt, 4) {
+    if !host::has_arg(&rt, 3) || host::has_arg(&rt, 4) {
         return rt.stderr().write_all(b"why STATE TIME REQUEST\n");
     }
-    let Num::At(time, _) = number(&rt, 2) else {
+    let Some(time) = number(&rt, 2) else {
         return rt
             .stderr()
             .write_all(b"why: TIME is no decimal up to 4294967295\n");
     };
-    let Num::At(kind, _) = number(&rt, 3) else {
+    let Some(kind) = number(&rt, 3) else {
         return rt
             .stderr()
             .write_all(b"why: REQUEST is no decimal up to 4294967295\n");
     };
-    say(&rt, time as u32, kind as u32)
+    say(&rt, time, kind)
 }

@@ -1,22 +1,19 @@
 -- `backoff::back` meets its contract. Assumes nothing.
 use mathlib.Core.Path.{ap, ◌∙◌}
-use native.Mathlib.Omega.{arith}
 use borrow.Author.Tests.{eq-eqb, ne_eqb}
 use Prim.Native.Nat.{◌+◌}
+use Rattle.services.specs.Services.{index_of}
 use Rattle.backoff.specs.Backoffs.{backed, stored, later}
 use Rattle.backoff.specs.declared.Backoff.{Backoff}
 use Rattle.backoff.proofs.back.Goals as goal
 
-pub returns-then-n-ne20 : goal.returns-then-n-ne20
+pub returns-then-n-eq20 : goal.returns-then-n-eq20
 unfolding backed
-returns-then-n-ne20 c = rw (ne_eqb _ _ c.if-n-ne20.true)
-
-pub overflow_add-t : goal.overflow_add-t
-overflow_add-t c = omega (arith, c.requires.w_bound c.if-n-ne20.false)
-
-pub returns : goal.returns
-unfolding backed
-returns c =
+returns-then-n-eq20 c =
     let a = c.args in
-    let is = c.failed-b.ensures ∙ ap (λ (b : Backoff). later b (a.t + a.w)) c.load.ensures in
-    rw (eq-eqb _ _ c.if-n-ne20.false) (c.store.ensures ∙ ap (stored a.s.now a.i) is)
+    let is = c.failed.ensures ∙ ap (λ (b : Backoff). later b (a.t + a.w)) c.load.ensures in
+    rw (eq-eqb _ _ c.if-n-eq20.true) (c.store.ensures ∙ ap (stored a.s.now (index_of a.service)) is)
+
+pub returns-else-n-eq20 : goal.returns-else-n-eq20
+unfolding backed
+returns-else-n-eq20 c = rw (ne_eqb _ _ c.if-n-eq20.false)

@@ -1,5 +1,5 @@
 -- `backoff::failing` meets its contract. Assumes nothing.
-use mathlib.Core.Path.{sym, ap, ◌∙◌}
+use mathlib.Core.Path.{ap}
 use borrow.Author.Tests.{eq-eqb, ne_eqb}
 use Rattle.buffer.specs.Layout.{facts_of}
 use Rattle.rules.specs.Calls.{answer}
@@ -10,10 +10,10 @@ pub returns-then-n-ne20 : goal.returns-then-n-ne20
 unfolding failed
 returns-then-n-ne20 c = rw (ne_eqb _ _ c.if-n-ne20.true)
 
-pub returns-then-nfm-ne1 : goal.returns-then-nfm-ne1
+pub returns-then-s-ne1 : goal.returns-then-s-ne1
 unfolding failed facts_of
-returns-then-nfm-ne1 c = rw (eq-eqb _ _ c.if-n-ne20.false, ← c.nfm.ensures, ne_eqb _ _ c.if-nfm-ne1.true)
+returns-then-s-ne1 c = rw (eq-eqb _ _ c.if-n-ne20.false, ne_eqb _ _ c.if-s-ne1.true)
 
 pub returns : goal.returns
 unfolding failed facts_of
-returns c = rw (eq-eqb _ _ c.if-n-ne20.false, eq-eqb _ _ (sym c.nfm.ensures ∙ c.if-nfm-ne1.false)) (ap (answer 20) c.wait.ensures)
+returns c = rw (eq-eqb _ _ c.if-n-ne20.false, eq-eqb _ _ c.if-s-ne1.false) (ap (answer 20) c.wait.ensures)

@@ -1,14 +1,11 @@
--- `card::is_blank` meets its contract: the flag and what is left decide. Assumes nothing.
-use mathlib.Core.Path.{refl}
-use native.Mathlib.Omega.{arith}
-use Rattle.card.proofs.Blank.{blank_next, blank_end}
+-- `card::is_blank` meets its contract. Assumes nothing.
+use Rattle.std.proofs.Common.{ℕ, eqb, ◌∙◌, rules, tests}
+use Rattle.std.proofs.lemmas.Iterator.{YieldsList-from_slice}
+use Rattle.std.proofs.lemmas.Iterator.Search.{all_from_yields_List}
+use Rattle.card.proofs.Blank.{blank_all}
 use Rattle.card.proofs.is_blank.Goals as goal
 
-pub loop-i-init : goal.loop-i-init
-loop-i-init c = (omega arith, refl)
-
-pub loop-i-preserved : goal.loop-i-preserved
-loop-i-preserved c = (omega arith, blank_next _ _ c.loop-i.ok c.loop-i.invariant.1 c.loop-i-test.true)
-
 pub returns : goal.returns
-returns c = blank_end _ _ c.loop-i.ok c.loop-i.invariant.1 c.loop-i-test.false
+returns c =
+    let p = c.args.p.now in
+    all_from_yields_List (λ (b : ℕ). eqb b 0) _ _ _ c.all.ensures.ran (YieldsList-from_slice p c.iter.ensures.rest) (λ x b q k. search (rules, tests)) ∙ blank_all p

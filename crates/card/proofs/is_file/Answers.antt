@@ -7,8 +7,8 @@ use Rattle.card.proofs.is_file.Goals as goal
 
 pub returns-then-p-long : goal.returns-then-p-long
 unfolding file
-returns-then-p-long c = rw (ne_eqb _ _ c.if-p-long.true)
+returns-then-p-long c = let a = c.args in rw (eq-eqb _ _ c.if-p-long.true) (c.is_blank.ensures ∙ ap blank (rest a.n a.p.now))
 
-pub returns : goal.returns
+pub returns-else-p-long : goal.returns-else-p-long
 unfolding file
-returns c = let a = c.args in rw (eq-eqb _ _ c.if-p-long.false) (c.is_blank.ensures ∙ ap blank (rest a.n a.p.now))
+returns-else-p-long c = rw (ne_eqb _ _ c.if-p-long.false)

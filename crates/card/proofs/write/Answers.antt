@@ -1,27 +1,13 @@
 -- `card::write` meets its contract. Assumes nothing.
-use lib.ListN.{length-set}
-use native.Mathlib.Omega.{arith}
+use Rattle.std.proofs.Common.{arith, ◌≡◌, ℕ, length, length-take, ap}
 use Rattle.card.specs.Card.{written}
+use Rattle.card.proofs.ReadsBack.{six}
 use Rattle.card.proofs.write.Goals as goal
-
-pub bounds-out-1 : goal.bounds-out-1
-bounds-out-1 c = simp length-set (omega arith)
-
-pub bounds-out-2 : goal.bounds-out-2
-bounds-out-2 c = simp length-set (omega arith)
-
-pub bounds-out-3 : goal.bounds-out-3
-bounds-out-3 c = simp length-set (omega arith)
-
-pub bounds-out-4 : goal.bounds-out-4
-bounds-out-4 c = simp length-set (omega arith)
-
-pub bounds-out-5 : goal.bounds-out-5
-bounds-out-5 c = simp length-set (omega arith)
-
-pub shape_of-out : goal.shape_of-out
-shape_of-out c = simp length-set (omega arith)
 
 pub returns : goal.returns
 unfolding written
-returns c = rw c.erase.ensures
+returns c =
+    let p = c.copy_from_slice.ensures in
+    let f = c.fill.ensures.after (λ y e. e) in
+    let l : length c.args.c ≡ 6 = omega (arith, ap length p.after, p.len, c.fill.ensures.len, c.told-out, length-take {A = ℕ}) in
+    rw (p.after, f, c.told-out) (six c.args.c _ l)

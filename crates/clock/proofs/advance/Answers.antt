@@ -14,4 +14,4 @@ returns c =
     let e2 = c.passed-g2.ensures in
     let e3 = c.passed-g3.ensures in
     let y = c.leak.ensures ∙ (λ j. leaked b (e1 j) (e2 j) (e3 j)) in
-    (clock_laid b c.requires.s_value c.args.t _ (c.set_last.ensures ∙ (λ i. set (y i) 3 c.args.t))).is
+    (clock_laid b c.requires c.args.t _ (λ i. set (y i) 3 c.args.t)).is

@@ -3,7 +3,4 @@ use Rattle.clock.proofs.Leaking.{rate_low}
 use Rattle.clock.proofs.passed.Goals as goal
 
 pub gone-requires : goal.gone-requires
-gone-requires c = rw c.rate.ensures (rate_low c.args.s.now c.requires.s_value c.args.i c.requires.i_bound)
-
-pub returns : goal.returns
-returns c = cc
+gone-requires c = rate_low c.args.s.now c.requires.s_value c.args.i c.requires.i_bound

@@ -1,27 +1,42 @@
 -- `command::command_in` meets its contract. Assumes nothing.
-use mathlib.Core.Path.{ap, ◌∙◌}
-use lib.ListN.{length}
+use mathlib.Core.Path.{refl, ap, ◌∙◌}
+use Rattle.std.specs.Prelude.{Some}
 use Rattle.at.specs.declared.Order.{Order}
+use Rattle.at.specs.Order.{line_of}
 use Rattle.at.specs.Lines.{read_line}
 use Rattle.at.proofs.ReadLaws.{told}
-use Rattle.command.proofs.Lined.{few, ten_long, did_query, did_nfm, did_nfm_start, did_intervals, did_bad}
-use borrow.Author.Rules.{rules}
+use Rattle.command.proofs.Lined.{did_query, did_nfm, did_nfm_start, did_intervals, did_bad}
 use Rattle.command.proofs.command_in.Goals as goal
 
-pub schedule-requires : goal.schedule-requires
-schedule-requires c = let n = ap (λ (o : Order). o.count) c.read-order.ensures in record { s_len = search rules; n_bound = (rw n (few c.args.line.now), ap (λ (o : Order). length o.list) c.read-order.ensures ∙ ten_long c.args.line.now) }
+pub returns-in-Some-Query-clause-says : goal.returns-in-Some-Query-clause-says
+returns-in-Some-Query-clause-says c =
+    let a = c.args in
+    rw c.wrote.ensures (did_query a.s.now c.requires.s_value a.line.now a.out.now (told _ (read_line a.line.now) c.in-Some-Query.ensures ∙ ap (λ (o : Order). line_of (Some o)) c.in-Some-Query.field-0-is) c.show.ensures).0
 
-pub returns-in-Query : goal.returns-in-Query
-returns-in-Query c = did_query c.args.s.now c.requires.s_value c.args.line.now c.args.out.now (told _ (read_line c.args.line.now) _ c.read-order.ensures c.in-Query.is) c.show.ensures
+pub returns-in-Some-Nfm-clause-says : goal.returns-in-Some-Nfm-clause-says
+returns-in-Some-Nfm-clause-says c =
+    let a = c.args in
+    rw c.wrote-in-Some-Nfm.ensures
+    (did_nfm a.s.now c.requires.s_value a.line.now a.out.now _ (told _ (read_line a.line.now) c.in-Some-Nfm.ensures ∙ ap (λ (o : Order). line_of (Some o)) c.in-Some-Nfm.field-0-is) refl c.turn.ensures c.okay.ensures).0
 
-pub returns-in-Nfm : goal.returns-in-Nfm
-returns-in-Nfm c = did_nfm c.args.s.now c.requires.s_value c.args.line.now c.args.out.now _ (told _ (read_line c.args.line.now) _ c.read-order.ensures c.in-Nfm.is) c.start-start.ensures c.turn.ensures c.okay.ensures
+pub returns-in-Some-NfmStart-clause-says : goal.returns-in-Some-NfmStart-clause-says
+returns-in-Some-NfmStart-clause-says c =
+    let a = c.args in
+    rw c.wrote-in-Some-NfmStart.ensures
+    (did_nfm_start a.s.now c.requires.s_value a.line.now a.out.now _ _ (told _ (read_line a.line.now) c.in-Some-NfmStart.ensures ∙ ap (λ (o : Order). line_of (Some o)) c.in-Some-NfmStart.field-0-is) c.turn-in-Some-NfmStart.ensures c.okay-in-Some-NfmStart.ensures).0
 
-pub returns-in-NfmStart : goal.returns-in-NfmStart
-returns-in-NfmStart c = did_nfm_start c.args.s.now c.requires.s_value c.args.line.now c.args.out.now _ _ (told _ (read_line c.args.line.now) _ c.read-order.ensures c.in-NfmStart.is) c.turn-in-NfmStart.ensures c.okay-in-NfmStart.ensures
+pub returns-in-Some-Intervals-clause-says : goal.returns-in-Some-Intervals-clause-says
+returns-in-Some-Intervals-clause-says c =
+    let a = c.args in
+    rw c.wrote-in-Some-Intervals.ensures
+    (did_intervals a.s.now c.requires.s_value a.line.now a.out.now _ (told _ (read_line a.line.now) c.in-Some-Intervals.ensures ∙ ap (λ (o : Order). line_of (Some o)) c.in-Some-Intervals.field-0-is) c.schedule.ensures c.okay-in-Some-Intervals.ensures).0
 
-pub returns-in-Intervals : goal.returns-in-Intervals
-returns-in-Intervals c = did_intervals c.args.s.now c.requires.s_value c.args.line.now c.args.out.now _ (told _ (read_line c.args.line.now) _ c.read-order.ensures c.in-Intervals.is) c.schedule.ensures c.okay-in-Intervals.ensures
+pub returns-in-None-clause-says : goal.returns-in-None-clause-says
+returns-in-None-clause-says c =
+    let a = c.args in
+    (did_bad a.s.now c.requires.s_value a.line.now a.out.now (told _ (read_line a.line.now) c.in-None.ensures)).0
 
-pub returns-in-Bad : goal.returns-in-Bad
-returns-in-Bad c = did_bad c.args.s.now c.requires.s_value c.args.line.now c.args.out.now (told _ (read_line c.args.line.now) _ c.read-order.ensures c.in-Bad.is)
+pub returns-in-None-clause-written : goal.returns-in-None-clause-written
+returns-in-None-clause-written c =
+    let a = c.args in
+    (did_bad a.s.now c.requires.s_value a.line.now a.out.now (told _ (read_line a.line.now) c.in-None.ensures)).1

@@ -1,42 +1,8 @@
 -- `command::told` meets its contract. Assumes nothing.
-use native.Mathlib.Omega.{arith}
-use lib.ListN.{length-set}
-use Rattle.opening.proofs.Copying.{stored as stores}
-use Rattle.command.specs.Command.{shown}
+use mathlib.Core.Path.{refl}
+use Rattle.buffer.specs.Segments.{paste}
 use Rattle.command.proofs.told.Goals as goal
 
-pub bounds-out-1 : goal.bounds-out-1
-bounds-out-1 c = simp length-set (omega arith)
-
-pub bounds-out-2 : goal.bounds-out-2
-bounds-out-2 c = simp length-set (omega arith)
-
-pub bounds-out-3 : goal.bounds-out-3
-bounds-out-3 c = simp length-set (omega arith)
-
-pub bounds-out-4 : goal.bounds-out-4
-bounds-out-4 c = simp length-set (omega arith)
-
-pub bounds-out-5 : goal.bounds-out-5
-bounds-out-5 c = simp length-set (omega arith)
-
-pub bounds-out-6 : goal.bounds-out-6
-bounds-out-6 c = simp length-set (omega arith)
-
-pub bounds-out-7 : goal.bounds-out-7
-bounds-out-7 c = simp length-set (omega arith)
-
-pub bounds-out-8 : goal.bounds-out-8
-bounds-out-8 c = simp length-set (omega arith)
-
-pub bounds-out-9 : goal.bounds-out-9
-bounds-out-9 c = simp length-set (omega arith)
-
-pub bounds-out-10 : goal.bounds-out-10
-bounds-out-10 c = simp length-set (omega arith)
-
-pub shape_of-out : goal.shape_of-out
-shape_of-out c = simp length-set
-
 pub returns : goal.returns
-returns c = let a = c.args in stores a.out.now (shown a.a a.s) 0 c.requires.in_bounds
+unfolding paste
+returns c = rw c.copy_from_slice.ensures.after refl

@@ -9,36 +9,35 @@ use Rattle.deciding.proofs.Deciding.{row_stands, row_rises, row_on, row_off, fir
 use Rattle.deciding.proofs.first_block.Goals as goal
 
 pub loop-i-init : goal.loop-i-init
-loop-i-init c = (omega arith, refl)
+loop-i-init c = refl
 
-pub blocked_for-m-requires : goal.blocked_for-m-requires
-blocked_for-m-requires c =
+pub blocked_for-requires : goal.blocked_for-requires
+blocked_for-requires c =
     let a = c.args in
     let i = c.loop-i.i in
     let r = c.limit-row in
     record { listed = row_stands a.s.now a.t a.q i r.result r.ensures c.requires.s_value; list_value = row_rises a.s.now a.t a.q i r.result r.ensures c.requires.s_value c.requires.s_bound }
 
-pub returns-then-m-ne0 : goal.returns-then-m-ne0
-returns-then-m-ne0 c =
+pub returns-in-Some : goal.returns-in-Some
+returns-in-Some c =
     let a = c.args in
     let l = c.loop-i in
     let r = c.limit-row in
-    let m = c.blocked_for-m in
-    let e = row_on a.s.now a.t a.q l.i r.result r.ensures c.requires.s_value c.requires.s_bound m.result m.ensures c.if-m-ne0.true in
-    (λ j. answer (r.ensures.number j) (e.1 j)) ∙ sym (l.invariant.1 ∙ first_at (view a.s.now) a.t a.q l.i c.loop-i-test.true ∙ rw e.0)
+    let o = c.blocked_for in
+    let e = row_on a.s.now a.t a.q l.i r.result r.ensures c.requires.s_value c.requires.s_bound o.result o.ensures c.in-Some.seconds c.in-Some.is in
+    (λ j. answer (r.ensures.number j) (e.1 j)) ∙ sym (l.invariant ∙ first_at (view a.s.now) a.t a.q l.i c.loop-i-test.true ∙ rw e.0)
 
 pub loop-i-preserved : goal.loop-i-preserved
 loop-i-preserved c =
     let a = c.args in
     let l = c.loop-i in
     let r = c.limit-row in
-    let m = c.blocked_for-m in
-    let e = row_off a.s.now a.t a.q l.i r.result r.ensures c.requires.s_value c.requires.s_bound m.result m.ensures c.if-m-ne0.false in
-    (omega arith, l.invariant.1 ∙ first_at (view a.s.now) a.t a.q l.i c.loop-i-test.true ∙ rw e)
+    let o = c.blocked_for in
+    let e = row_off a.s.now a.t a.q l.i r.result r.ensures c.requires.s_value c.requires.s_bound o.result o.ensures c.in_default.is in
+    l.invariant ∙ first_at (view a.s.now) a.t a.q l.i c.loop-i-test.true ∙ rw e
 
 pub returns : goal.returns
 unfolding limits
 returns c =
-    let x = c.args in
-    let n : c.loop-i.i ≡ 7 = omega (arith, c.loop-i.invariant.0) in
-    sym (c.loop-i.invariant.1 ∙ rw n)
+    let n : c.loop-i.i ≡ 7 = omega arith in
+    sym (c.loop-i.invariant ∙ rw n)

@@ -1,20 +1,20 @@
 -- `deciding::fits` meets its contract. Assumes nothing.
 use lib.Dec.{lit<}
 use native.Mathlib.Omega.{arith}
-use borrow.Author.Tests.{le-leb, lt-leb, eq-eqb, ne_eqb}
+use borrow.Author.Tests.{le-leb, lt-leb, ne_eqb}
 use Rattle.rules.specs.Rules.{stands}
 use Rattle.buffer.specs.Layout.{facts_of}
 use Rattle.buffer.proofs.Segments.{part_at}
 use Rattle.deciding.proofs.fits.Goals as goal
 
-pub returns-then-q-le3 : goal.returns-then-q-le3
+pub returns-in-0-to-3 : goal.returns-in-0-to-3
 unfolding stands facts_of
-returns-then-q-le3 c = rw (le-leb _ _ c.if-q-le3.true, part_at c.args.s.now 39 4 c.args.q (omega arith), c.standing.ensures)
+returns-in-0-to-3 c = rw (le-leb c.args.q 3 (omega arith), part_at c.args.s.now 39 4 c.args.q (omega arith))
 
-pub returns-then-q-eq4 : goal.returns-then-q-eq4
+pub returns-in-4 : goal.returns-in-4
 unfolding stands facts_of
-returns-then-q-eq4 c = rw (lt-leb _ _ c.if-q-le3.false, eq-eqb _ _ c.if-q-eq4.true, part_at c.args.s.now 39 4 2 (lit< tt), c.standing-then-q-eq4.ensures)
+returns-in-4 c = rw (c.in-4.is, part_at c.args.s.now 39 4 2 (lit< tt))
 
-pub returns : goal.returns
+pub returns-in_default : goal.returns-in_default
 unfolding stands facts_of
-returns c = rw (lt-leb _ _ c.if-q-le3.false, ne_eqb _ _ c.if-q-eq4.false)
+returns-in_default c = rw (lt-leb c.args.q 3 (omega arith), ne_eqb c.args.q 4 (λ z. grind (arith, z)))

@@ -1,20 +1,12 @@
 -- `journal::all_erased` meets its contract. Assumes nothing.
-use mathlib.Core.Path.{refl, sym, ◌∙◌}
-use native.Mathlib.Omega.{arith}
-use Rattle.journal.proofs.Reading.{erased_bad, erased_on, erased_end}
+use Rattle.std.proofs.Common.{ℕ, eqb, drop, ◌∙◌, arith, rules, tests, length-drop}
+use lib.Seq.{take_all}
+use Rattle.std.proofs.lemmas.Iterator.{YieldsList-from_slice}
+use Rattle.std.proofs.lemmas.Iterator.Search.{all_from_yields_List}
+use Rattle.journal.proofs.Reading.{erased_all}
 use Rattle.journal.proofs.all_erased.Goals as goal
-
-pub loop-i-init : goal.loop-i-init
-loop-i-init c = (omega arith, refl)
-
-pub returns-then-area-i : goal.returns-then-area-i
-returns-then-area-i c =
-    sym (erased_bad c.args.area.now c.loop-i.i (omega arith) c.if-area-i.true) ∙ c.loop-i.invariant.1
-
-pub loop-i-preserved : goal.loop-i-preserved
-loop-i-preserved c =
-    (omega arith, erased_on c.args.area.now c.loop-i.i (omega arith) c.if-area-i.false ∙ c.loop-i.invariant.1)
 
 pub returns : goal.returns
 returns c =
-    sym (erased_end c.args.area.now c.loop-i.i (omega arith)) ∙ c.loop-i.invariant.1
+    let l = drop c.args.from c.args.area.now in
+    all_from_yields_List (λ (b : ℕ). eqb b 255) _ _ _ c.all.ensures.ran (YieldsList-from_slice l (c.iter.ensures.rest ∙ take_all _ l (omega (arith, length-drop {A = ℕ})))) (λ x b q k. search (rules, tests)) ∙ erased_all l

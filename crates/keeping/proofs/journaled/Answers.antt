@@ -1,20 +1,18 @@
 -- `keeping::journaled` meets its contract. Assumes nothing.
-use Rattle.keeping.proofs.Calling.{journal_short, journal_refused}
-use Rattle.records.specs.Records.{Noted, times, call_of}
-use Rattle.calls.specs.Letters.{event_of}
-use Rattle.clock.proofs.Saying.{known_good, known_bad}
-use Rattle.rules.specs.Calls.{answer}
-use mathlib.Core.Path.{refl}
-use lib.ListN.{get_or}
-use mathlib.Core.Path.{ap}
-use mathlib.Core.Bool.{not}
+use Rattle.calls.specs.Written.{when, what}
+use Rattle.records.specs.Records.{Noted, times}
+use Rattle.keeping.proofs.Calling.{journal_short, journal_bad}
 use Rattle.keeping.proofs.journaled.Goals as goal
 
-pub returns-then-area-ne-AREA : goal.returns-then-area-ne-AREA
-returns-then-area-ne-AREA c = let a = c.args in let b = a.state.now in let n : Noted = times (get_or a.v.now 0 0) (event_of a.x a.v.now) in journal_short b a.area.now n c.if-area-ne-AREA.true
+pub returns-in_default : goal.returns-in_default
+returns-in_default c =
+    let a = c.args in
+    let n : Noted = times (when a.call) (what a.call) in
+    rw c.into.ensures (journal_short a.state.now a.area.now n c.in_default.ensures.cases)
 
-pub returns-then-not-is_good : goal.returns-then-not-is_good
-returns-then-not-is_good c = let a = c.args in let b = a.state.now in let n : Noted = times (get_or a.v.now 0 0) (event_of a.x a.v.now) in journal_refused b a.area.now n c.if-area-ne-AREA.false (answer 1 0) (known_bad b (call_of n) c.is_good.ensures (ap not c.if-not-is_good.true)).answered refl
-
-pub journaled_in-requires : goal.journaled_in-requires
-journaled_in-requires c = let k = known_good c.args.state.now c.is_good.ensures (ap not c.if-not-is_good.false) in record { state_len = k.0; state_value = k.1; area_len = c.if-area-ne-AREA.false; v_len = c.requires }
+pub returns-in_default-good_mut : goal.returns-in_default-good_mut
+returns-in_default-good_mut c =
+    let a = c.args in
+    let n : Noted = times (when a.call) (what a.call) in
+    let area = c.in-Some.ensures.cases in
+    rw (c.into-in_default-good_mut.ensures, area.same) (journal_bad a.state.now a.area.now n area.long c.in_default-good_mut.ensures.cases)

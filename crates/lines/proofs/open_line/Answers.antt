@@ -1,30 +1,61 @@
 -- `lines::open_line` meets its contract. Assumes nothing.
-use lib.Seq.{length-take-le}
-use Rattle.lines.proofs.Doing.{done_wrong, open_no_time, open_no_imsi, open_no_intervals, open_intervals}
-use Rattle.lines.specs.Line.{Done}
-use Rattle.lines.specs.Trace.{Said}
-use Rattle.text.specs.declared.Num.{Num}
-use Rattle.text.specs.Number.{value_of}
-use mathlib.Core.Path.{subst}
-use Prim.Native.Nat.{◌≤◌}
-use mathlib.Core.Path.{sym}
-use native.Mathlib.Omega.{arith}
+use mathlib.Core.Path.{◌≡◌, sym, ap, ◌∙◌}
+use lib.ListN.{drop}
+use Rattle.lines.specs.Trace.{open_line}
+use Rattle.lines.specs.Held.{ending_by}
+use Rattle.lines.proofs.Doing.{with_time, with_imsi, done_wrong, done_open, open_no_time, open_time, open_no_imsi, open_imsi, open_no_intervals, open_intervals}
 use Rattle.lines.proofs.open_line.Goals as goal
 
-pub returns-in_default : goal.returns-in_default
-returns-in_default c = done_wrong (open_no_time c.args.line.now c.field.result c.field.ensures.0 c.in_default.is)
+pub returns-in_err-time : goal.returns-in_err-time
+returns-in_err-time c =
+    let l = c.args.line.now in
+    let f = c.field in
+    rw c.from_residual.ensures (done_wrong (open_no_time l f.result f.ensures.0 c.in_err-time.was))
 
-pub returns-in_default-field : goal.returns-in_default-field
-returns-in_default-field c = done_wrong (open_no_imsi c.args.line.now c.field.result c.field.ensures.0 c.in-At.time c.in-At.after_time c.in-At.is c.field-2.result c.field-2.ensures.0 c.in_default-field.is)
+pub returns-in_err-imsi : goal.returns-in_err-imsi
+returns-in_err-imsi c =
+    let l = c.args.line.now in
+    let f = c.field in
+    let t = c.in_ok-time in
+    let o : open_line (drop 1 l) ≡ with_time t.time.value (drop t.time.next l) = open_time l f.result f.ensures.0 t.time t.was in
+    let g = c.field-2 in
+    rw c.from_residual-in_err-imsi.ensures (done_wrong (open_no_imsi l t.time.value t.time.next g.result g.ensures.0 o c.in_err-imsi.was))
 
-pub returns-then-count-eq0 : goal.returns-then-count-eq0
-returns-then-count-eq0 c = done_wrong (open_no_intervals c.args.line.now c.field.result c.field.ensures.0 c.in-At.time c.in-At.after_time c.in-At.is c.field-2.result c.field-2.ensures.0 c.in-At-field.imsi c.in-At-field.after_imsi c.in-At-field.is c.fields-read.new.out c.fields-read.result c.fields-read.ensures.0 c.if-count-eq0.true)
+pub returns-in_err-read : goal.returns-in_err-read
+returns-in_err-read c =
+    let l = c.args.line.now in
+    let f = c.field in
+    let t = c.in_ok-time in
+    let o : open_line (drop 1 l) ≡ with_time t.time.value (drop t.time.next l) = open_time l f.result f.ensures.0 t.time t.was in
+    let g = c.field-2 in
+    let i = c.in_ok-imsi in
+    let u : open_line (drop 1 l) ≡ with_imsi t.time.value i.imsi.value (drop i.imsi.next l) = open_imsi l t.time.value t.time.next g.result g.ensures.0 o i.imsi i.was in
+    let x = c.fields in
+    rw c.from_residual-in_err-read.ensures (done_wrong (open_no_intervals l t.time.value i.imsi.value i.imsi.next x.new.out x.result x.ensures.0 u c.in_err-read.was))
 
-pub overflow_cast-time : goal.overflow_cast-time
-overflow_cast-time c = let h = subst (λ (r : Num). value_of r ≤ 4294967295) c.in-At.is c.field.ensures.2 in omega arith
-
-pub slice_bounds-open_with-end : goal.slice_bounds-open_with-end
-slice_bounds-open_with-end c = sym (length-take-le c.fields-read.result.count c.fields-read.new.out (omega (arith, c.fields-read.ensures.1, c.fields-read.auto.out)))
+pub returns-in_err-tail : goal.returns-in_err-tail
+returns-in_err-tail c =
+    let l = c.args.line.now in
+    let f = c.field in
+    let t = c.in_ok-time in
+    let o : open_line (drop 1 l) ≡ with_time t.time.value (drop t.time.next l) = open_time l f.result f.ensures.0 t.time t.was in
+    let g = c.field-2 in
+    let i = c.in_ok-imsi in
+    let u : open_line (drop 1 l) ≡ with_imsi t.time.value i.imsi.value (drop i.imsi.next l) = open_imsi l t.time.value t.time.next g.result g.ensures.0 o i.imsi i.was in
+    let x = c.fields in
+    let s = c.in_ok-read in
+    rw c.from_residual-in_err-tail.ensures
+    (done_wrong (open_intervals l t.time.value i.imsi.value i.imsi.next x.new.out x.result x.ensures.0 u s.read s.was (sym (ap ending_by c.in_err-tail.was) ∙ c.ending.ensures)))
 
 pub returns : goal.returns
-returns c = subst (λ (w : Said). Done c.args.s.now w c.open_with.result c.open_with.new.s) (sym (open_intervals c.args.line.now c.field.result c.field.ensures.0 c.in-At.time c.in-At.after_time c.in-At.is c.field-2.result c.field-2.ensures.0 c.in-At-field.imsi c.in-At-field.after_imsi c.in-At-field.is c.fields-read.new.out c.fields-read.result c.fields-read.ensures.0 c.if-count-eq0.false)) c.open_with.ensures
+returns c =
+    let l = c.args.line.now in
+    let f = c.field in
+    let t = c.in_ok-time in
+    let o : open_line (drop 1 l) ≡ with_time t.time.value (drop t.time.next l) = open_time l f.result f.ensures.0 t.time t.was in
+    let g = c.field-2 in
+    let i = c.in_ok-imsi in
+    let u : open_line (drop 1 l) ≡ with_imsi t.time.value i.imsi.value (drop i.imsi.next l) = open_imsi l t.time.value t.time.next g.result g.ensures.0 o i.imsi i.was in
+    let x = c.fields in
+    let s = c.in_ok-read in
+    done_open (open_intervals l t.time.value i.imsi.value i.imsi.next x.new.out x.result x.ensures.0 u s.read s.was (sym (ap ending_by c.in_ok-tail.was) ∙ c.ending.ensures)) c.«open».ensures

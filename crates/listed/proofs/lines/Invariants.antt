@@ -2,12 +2,9 @@
 use mathlib.Core.List.{◌++◌}
 use mathlib.Core.Path.{◌≡◌}
 use Prim.Native.Nat.{◌≤◌, ◌*◌, ◌-◌}
-use lib.ListN.{length, take}
+use lib.ListN.{take}
 use Rattle.listed.specs.Slots.{line_at, from, lines_of}
 use Rattle.listed.proofs.lines.Given as goal
 
 abbrev pub invariant-loop-i : goal.invariant-loop-i
-invariant-loop-i l = (l.i ≤ 512) × ((length l.out ≡ length l.initial.out) × ((l.at ≤ 128 * l.i) × (take l.at l.out ++ from (line_at l.area) (512 - l.i) l.i ≡ lines_of l.area)))
-
-abbrev pub decreases-loop-i : goal.decreases-loop-i
-decreases-loop-i l = 512 - l.i
+invariant-loop-i l = (l.at ≤ 128 * l.i) × (take l.at l.out ++ from (line_at l.area) (512 - l.i) l.i ≡ lines_of l.area)

@@ -1,18 +1,13 @@
 -- `listing::field` meets its contract. Assumes nothing.
-use mathlib.Core.Path.{◌≡◌, ◌∙◌}
+use mathlib.Core.Path.{◌∙◌}
 use native.Mathlib.Omega.{arith}
-use lib.ListN.{length, set, length-set}
+use lib.ListN.{length-set}
 use Rattle.listing.proofs.Printing.{field_length, field_put}
 use Rattle.text.proofs.Putting.{ten_digits}
 use Rattle.listing.proofs.field.Goals as goal
 
 pub put-requires : goal.put-requires
 put-requires c = let h = ten_digits c.args.n (omega arith) in simp length-set (omega arith)
-
-pub shape_of-out : goal.shape_of-out
-shape_of-out c =
-    let l : length (set c.args.out.now c.args.at 32) ≡ length c.args.out.now = simp length-set in
-    omega (arith, c.put.auto, l)
 
 pub returns : goal.returns
 returns c =

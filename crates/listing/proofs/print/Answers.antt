@@ -18,8 +18,8 @@ slice_bounds-timed-end c =
     let h = many_few (get_or c.args.rec.now 0 0) in
     simp (length-take) (omega (arith, c.how_many-n.ensures))
 
-pub timed-requires : goal.timed-requires
-timed-requires c =
+pub timed-requires-clause-v_len : goal.timed-requires-clause-v_len
+timed-requires-clause-v_len c =
     let h = many_few (get_or c.args.rec.now 0 0) in
     let e = c.how_many-n.ensures in
-    record { rec_len = c.requires; v_len = (simp length-take (omega (arith, e)), λ z. c.if-n-eq0.false (e ∙ z)); rec_nonzero = c.if-x-eq65.false }
+    (simp length-take (omega (arith, e)), λ z. c.if-n-eq0.false (e ∙ z))

@@ -12,25 +12,25 @@ pub numbers-requires : goal.numbers-requires
 numbers-requires c =
     let h = many_few (get_or c.args.rec.now 0 0) in
     let many = c.requires.v_len.0 in
-    record { rec_len = c.requires.rec_len.0; v_len_bound = omega arith }
+    omega arith
 
 pub answer-a-requires : goal.answer-a-requires
 answer-a-requires c =
     let h = many_few (get_or c.args.rec.now 0 0) in
     let many = c.requires.v_len.0 in
-    omega (arith, c.requires.rec_len.0, c.numbers.auto)
+    omega (arith, c.numbers.auto)
 
 pub is_timed-requires : goal.is_timed-requires
 is_timed-requires c =
     let h = many_few (get_or c.args.rec.now 0 0) in
     let many = c.requires.v_len.0 in
-    record { v_len_bound = omega (arith, c.numbers.auto); rec_len = c.requires.rec_len.0 }
+    omega (arith, c.numbers.auto)
 
 pub timed_line-requires : goal.timed_line-requires
 timed_line-requires c =
     let h = many_few (get_or c.args.rec.now 0 0) in
     let many = c.requires.v_len.0 in
-    record { v_len_bound = omega (arith, c.numbers.auto); out_len = c.requires.rec_len.1 }
+    omega (arith, c.numbers.auto)
 
 pub returns-then-is_timed : goal.returns-then-is_timed
 returns-then-is_timed c =
@@ -40,8 +40,8 @@ returns-then-is_timed c =
     let many = c.requires.v_len.0 in
     record { out_after = timed_some r c.requires.rec_nonzero c.requires.v_len.1 _ (n.ensures ∙ ap (λ (k : ℕ). numbers_in k r) many) (omega (arith, n.auto)) a.result a.ensures (sym c.is_timed.ensures ∙ c.if-is_timed.true) c.timed_line.ensures.out_after; result_bound = c.timed_line.ensures.upper_bound }
 
-pub returns : goal.returns
-returns c =
+pub returns-else-is_timed : goal.returns-else-is_timed
+returns-else-is_timed c =
     let r = c.args.rec.now in
     let n = c.numbers in
     let a = c.answer-a in

@@ -1,22 +1,16 @@
 -- `noting::command` meets its contract. Assumes nothing.
-use Rattle.noting.proofs.Lining.{line_deaf, line_short, line_refused}
-use Rattle.at.specs.Lines.{read_line}
-use Rattle.clock.proofs.Saying.{known_good, known_bad}
-use Rattle.rules.specs.Calls.{answer, typed}
-use mathlib.Core.Path.{refl}
 use native.Mathlib.Omega.{arith}
-use mathlib.Core.Path.{ap}
-use mathlib.Core.Bool.{not}
+use Rattle.noting.proofs.Lining.{line_short, line_bad}
 use Rattle.noting.proofs.command.Goals as goal
 
-pub returns-then-out-lt16 : goal.returns-then-out-lt16
-returns-then-out-lt16 c = let a = c.args in line_deaf a.state.now a.area.now a.line.now a.out.now c.if-out-lt16.true
+pub returns-in_default : goal.returns-in_default
+returns-in_default c =
+    let a = c.args in
+    rw c.into-in_default.ensures (line_short a.state.now a.area.now a.line.now a.out.now (omega arith) c.in_default.ensures.cases)
 
-pub returns-then-area-ne-AREA : goal.returns-then-area-ne-AREA
-returns-then-area-ne-AREA c = let a = c.args in line_short a.state.now a.area.now a.line.now a.out.now (omega arith) c.if-area-ne-AREA.true
-
-pub returns-then-not-is_good : goal.returns-then-not-is_good
-returns-then-not-is_good c = let a = c.args in line_refused a.state.now a.area.now a.line.now a.out.now (omega arith) c.if-area-ne-AREA.false (answer 1 0) (known_bad a.state.now (typed (read_line a.line.now)) c.is_good.ensures (ap not c.if-not-is_good.true)).answered refl
-
-pub command_in-requires : goal.command_in-requires
-command_in-requires c = let k = known_good c.args.state.now c.is_good.ensures (ap not c.if-not-is_good.false) in record { state_len = k.0; state_value = k.1; area_len = c.if-area-ne-AREA.false; in_bounds = omega arith }
+pub returns-in_default-good_mut : goal.returns-in_default-good_mut
+returns-in_default-good_mut c =
+    let a = c.args in
+    let area = c.in-Some.ensures.cases in
+    rw (c.into-in_default-good_mut.ensures, area.same)
+    (line_bad a.state.now a.area.now a.line.now a.out.now (omega arith) area.long c.in_default-good_mut.ensures.cases)

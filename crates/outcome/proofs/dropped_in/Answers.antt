@@ -1,26 +1,18 @@
 -- `outcome::dropped_in` meets its contract. Assumes nothing.
+use mathlib.Core.Path.{refl, sym}
 use Rattle.rules.specs.declared.Event.TheVariants.{Dropped as dropped}
 use Rattle.buffer.specs.Layout.{facts_of}
-use Rattle.clock.proofs.Saying.{says_number}
-use Rattle.outcome.proofs.Outcomes.{dropped_refusal, says_dropped}
+use Rattle.outcome.proofs.Outcomes.{dropped_refusal, says_why, says_dropped}
 use Rattle.outcome.proofs.dropped_in.Goals as goal
 
-pub returns-then-n-ne0 : goal.returns-then-n-ne0
+pub returns-in_err-refuse-clause-says : goal.returns-in_err-refuse-clause-says
 unfolding facts_of
-returns-then-n-ne0 c =
-    let n = c.refuse-n in
-    let time = c.timely.ensures in
-    let stands = c.standing.ensures in
-    let d = dropped_refusal c.args.s.now c.args.t n.result n.ensures time stands in
-    says_number c.args.s.now c.requires.s_value c.args.t dropped n.result d c.if-n-ne0.true
+returns-in_err-refuse-clause-says c =
+    let a = c.args in
+    says_why a.s.now c.requires a.t dropped c.from_residual.result _ c.from_residual.ensures.1 (dropped_refusal a.s.now a.t _ c.in_err-refuse.ensures c.timely.ensures)
 
-pub returns : goal.returns
+pub returns-clause-says : goal.returns-clause-says
 unfolding facts_of
-returns c =
-    let n = c.refuse-n in
-    let time = c.timely.ensures in
-    let stands = c.standing.ensures in
-    let d = dropped_refusal c.args.s.now c.args.t n.result n.ensures time stands in
-    says_dropped c.args.s.now c.requires.s_value c.args.t n.result c.if-n-ne0.false d
-    c.advance.ensures
-    c.set_standing.ensures
+returns-clause-says c =
+    let a = c.args in
+    says_dropped a.s.now c.requires a.t (sym (dropped_refusal a.s.now a.t 0 c.in_ok-refuse.ensures c.timely.ensures)) c.advance.ensures refl

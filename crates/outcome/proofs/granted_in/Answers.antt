@@ -1,26 +1,24 @@
 -- `outcome::granted_in` meets its contract. Assumes nothing.
+use mathlib.Core.Path.{sym, ap, ◌∙◌}
+use Prim.Native.Nat.{ℕ}
 use Rattle.rules.specs.declared.Event.TheVariants.{Outcome as outcome}
 use Rattle.rules.specs.declared.Outcome.TheVariants.{Granted as granted}
-use Rattle.rules.specs.Rules.{refusal, in_range, stands}
-use Rattle.clock.proofs.Saying.{says_number}
-use Rattle.outcome.proofs.Outcomes.{low, passed_range, says_granted}
+use Rattle.rules.specs.Rules.{refusal, in_range, stands, on_granted}
+use Rattle.buffer.specs.Layout.{facts_of}
+use Rattle.outcome.specs.Outcome.{served}
+use Rattle.outcome.proofs.Outcomes.{says_why, says_granted}
 use Rattle.outcome.proofs.granted_in.Goals as goal
 
-pub returns-then-n-ne0 : goal.returns-then-n-ne0
+pub returns-in_err-service-clause-says : goal.returns-in_err-service-clause-says
 unfolding refusal in_range stands
-returns-then-n-ne0 c =
-    let n = c.checks-n in
-    says_number c.args.s.now c.requires.s_value c.args.t (outcome c.args.service granted) n.result n.ensures c.if-n-ne0.true
+returns-in_err-service-clause-says c =
+    let a = c.args in
+    says_why a.s.now c.requires a.t (outcome a.number granted) c.from_residual.result _ c.from_residual.ensures.1 c.in_err-service.ensures.check
 
-pub grant-requires : goal.grant-requires
+pub returns-clause-says : goal.returns-clause-says
 unfolding refusal in_range stands
-grant-requires c =
-    let n = c.checks-n in
-    record { s_len = c.requires.s_len; s_value = c.requires.s_value; i_bound = low c.args.service (passed_range c.args.s.now c.args.t (outcome c.args.service granted) n.result n.ensures c.if-n-ne0.false) }
-
-pub returns : goal.returns
-unfolding refusal in_range stands
-returns c =
-    let n = c.checks-n in
-    says_granted c.args.s.now c.requires.s_value c.args.t n.result c.if-n-ne0.false c.args.service n.ensures
-    c.grant.ensures
+returns-clause-says c =
+    let a = c.args in
+    let found = c.in_ok-service.ensures in
+    says_granted a.s.now c.requires a.t a.number (sym found.check)
+    (c.grant.ensures ∙ ap (λ (i : ℕ). served a.s.now a.t (on_granted i (facts_of a.s.now).services)) found.found)

@@ -1,12 +1,17 @@
 -- `outcome::rest` meets its contract. Assumes nothing.
-use borrow.Author.Tests.{eq-eqb, ne_eqb}
+use mathlib.Core.Path.{refl, sym, ◌∙◌}
+use Rattle.services.proofs.Services.{is_pdp}
 use Rattle.outcome.specs.Outcome.{rested}
 use Rattle.outcome.proofs.rest.Goals as goal
 
-pub returns-then-i-eq2 : goal.returns-then-i-eq2
+pub returns-then-eq : goal.returns-then-eq
 unfolding rested
-returns-then-i-eq2 c = rw (eq-eqb _ _ c.if-i-eq2.true) (cc)
+returns-then-eq c =
+    let e = sym (is_pdp c.args.service) ∙ sym c.eq.ensures ∙ c.if-eq.true in
+    rw (e, c.index.ensures.value) refl
 
-pub returns-else-i-eq2 : goal.returns-else-i-eq2
+pub returns-else-eq : goal.returns-else-eq
 unfolding rested
-returns-else-i-eq2 c = rw (ne_eqb _ _ c.if-i-eq2.false) c.set_standing.ensures
+returns-else-eq c =
+    let e = sym (is_pdp c.args.service) ∙ sym c.eq.ensures ∙ c.if-eq.false in
+    rw (e, c.index.ensures.value) refl

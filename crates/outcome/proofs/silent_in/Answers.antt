@@ -1,29 +1,33 @@
 -- `outcome::silent_in` meets its contract. Assumes nothing.
+use mathlib.Core.Path.{sym}
+use native.Mathlib.Omega.{arith}
 use Rattle.rules.specs.declared.Event.TheVariants.{Outcome as outcome}
 use Rattle.rules.specs.declared.Outcome.TheVariants.{Silent as silent}
 use Rattle.rules.specs.Rules.{refusal, in_range, stands}
-use Rattle.clock.proofs.Saying.{says_number}
-use Rattle.outcome.proofs.Outcomes.{low, passed_range, passed_time, says_silent}
+use Rattle.services.specs.Services.{index_of}
+use Rattle.buffer.specs.Layout.{facts_of}
+use Rattle.outcome.proofs.Outcomes.{failed_goes_on, says_why, passed_time, says_silent}
 use Rattle.outcome.proofs.silent_in.Goals as goal
 
-pub returns-then-n-ne0 : goal.returns-then-n-ne0
+pub returns-in_err-service-clause-says : goal.returns-in_err-service-clause-says
 unfolding refusal in_range stands
-returns-then-n-ne0 c =
-    let n = c.checks-n in
-    says_number c.args.s.now c.requires.s_value c.args.t (outcome c.args.service silent) n.result n.ensures c.if-n-ne0.true
+returns-in_err-service-clause-says c =
+    let a = c.args in
+    says_why a.s.now c.requires a.t (outcome a.number silent) c.from_residual.result _ c.from_residual.ensures.1 c.in_err-service.ensures.check
 
 pub fail-requires : goal.fail-requires
 unfolding refusal in_range stands
 fail-requires c =
-    let n = c.checks-n in
-    let z = c.if-n-ne0.false in
-    let range = passed_range c.args.s.now c.args.t (outcome c.args.service silent) n.result n.ensures z in
-    let late = passed_time c.args.s.now c.args.t (outcome c.args.service silent) n.result n.ensures z in
-    record { s_len = c.requires.s_len; s_value = c.requires.s_value; i_bound = low c.args.service range; t_le_highest_time = late }
+    let a = c.args in
+    record { s_value = c.requires; t_le_highest_time = passed_time a.s.now a.t (outcome a.number silent) (sym c.in_ok-service.ensures.check) }
 
-pub returns : goal.returns
+pub returns-clause-says : goal.returns-clause-says
 unfolding refusal in_range stands
-returns c =
-    let n = c.checks-n in
+returns-clause-says c =
+    let a = c.args in
+    let found = c.in_ok-service.ensures in
     let r = c.fail.ensures in
-    says_silent c.args.s.now c.requires.s_value c.args.t n.result c.if-n-ne0.false c.args.service n.ensures r.value r.s_after
+    says_silent a.s.now c.requires a.t a.number (sym found.check) (rw (sym found.found) r.value) (rw (sym found.found) r.s_after)
+
+pub returns-clause-refused : goal.returns-clause-refused
+returns-clause-refused c = failed_goes_on (facts_of c.args.s.now) (index_of c.in_ok-service.service) 20 (omega arith) c.fail.ensures.value

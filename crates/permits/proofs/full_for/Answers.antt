@@ -1,6 +1,6 @@
 -- `permits::full_for` meets its contract: it looks at one time of the list, which by `one_time`
 -- tells enough. Assumes nothing.
-use mathlib.Core.Path.{◌≡◌, refl, sym, ap, ◌∙◌}
+use mathlib.Core.Path.{◌≡◌, refl, ap, ◌∙◌}
 use mathlib.Core.Bool.{Bool, true, false, cond, ◌&&◌}
 use mathlib.Core.List.{List}
 use Prim.Native.Nat.{ℕ, ◌+◌, ◌-◌, ◌≤◌, ◌<◌}
@@ -13,6 +13,7 @@ use Rattle.rules.specs.Tables.{within, from_newest, free_in, ascending}
 use Rattle.rules.proofs.Newest.{Rising, ascending_rises}
 use Rattle.rules.proofs.Hour.{rising_at, one_time}
 use Rattle.permits.specs.Permits.{full_for}
+use Rattle.refusals.proofs.Found.{none_zero, some_above}
 use Rattle.permits.proofs.full_for.Goals as goal
 
 -- the first n of p, which rise to t
@@ -53,7 +54,7 @@ module _ (p : List ℕ) (n t : ℕ) (long : n ≤ length p) (up : ascending 0 t 
 pub returns-then-n-most : goal.returns-then-n-most
 returns-then-n-most c =
     let a = c.args in
-    sym (short a.p.now a.n a.t c.requires.n_in_bounds c.requires.p_value a.most c.requires.most_nonzero (omega (arith, c.if-n-most.true)))
+    none_zero _ (short a.p.now a.n a.t c.requires.n_in_bounds c.requires.p_value a.most c.requires.most_nonzero (omega (arith, c.if-n-most.true)))
 
 pub bounds-p-i : goal.bounds-p-i
 bounds-p-i c = omega (arith, c.requires.n_in_bounds, c.requires.most_nonzero)
@@ -67,9 +68,10 @@ pub returns-then-age-lt3600 : goal.returns-then-age-lt3600
 returns-then-age-lt3600 c =
     let a = c.args in
     let h = past a.p.now a.n a.t c.requires.n_in_bounds c.requires.p_value (a.n - a.most) (omega (arith, c.requires.most_nonzero, c.if-n-most.false)) in
-    omega (arith, h, told a.p.now a.n a.t c.requires.n_in_bounds c.requires.p_value a.most c.requires.most_nonzero (omega (arith, c.if-n-most.false)))
+    let d = told a.p.now a.n a.t c.requires.n_in_bounds c.requires.p_value a.most c.requires.most_nonzero (omega (arith, c.if-n-most.false)) in
+    some_above _ _ (omega (arith, h, d)) (λ z. omega (arith, c.if-age-lt3600.true, z))
 
 pub returns-else-age-lt3600 : goal.returns-else-age-lt3600
 returns-else-age-lt3600 c =
     let a = c.args in
-    omega (arith, told a.p.now a.n a.t c.requires.n_in_bounds c.requires.p_value a.most c.requires.most_nonzero (omega (arith, c.if-n-most.false)))
+    none_zero _ (omega (arith, told a.p.now a.n a.t c.requires.n_in_bounds c.requires.p_value a.most c.requires.most_nonzero (omega (arith, c.if-n-most.false))))

@@ -13,39 +13,53 @@ use Rattle.reasons.proofs.look.Goals as goal
 late : (b : List ℕ) (t q : ℕ) → refusal (facts_of b) (timed t (ask q)) ≡ 0 → (facts_of b).last ≤ t
 late b t q = on_time (facts_of b) t (ask q)
 
-pub blocked_for-m-requires : goal.blocked_for-m-requires
-blocked_for-m-requires c =
+pub blocked_for-requires : goal.blocked_for-requires
+blocked_for-requires c =
     let a = c.args in
     let r = c.limit in
-    record { listed = row_stands a.s.now a.t a.q a.i r.result r.ensures c.requires.s_value; list_value = row_rises a.s.now a.t a.q a.i r.result r.ensures c.requires.s_value (late a.s.now a.t a.q c.requires.q_value) }
+    let past = late a.s.now a.t a.q c.requires.q_value in
+    record { listed = row_stands a.s.now a.t a.q a.i r.result r.ensures c.requires.s_value; list_value = row_rises a.s.now a.t a.q a.i r.result r.ensures c.requires.s_value past }
 
-pub returns-then-m-eq0 : goal.returns-then-m-eq0
-returns-then-m-eq0 c =
+pub returns-in_err-m-clause-stands_value : goal.returns-in_err-m-clause-stands_value
+returns-in_err-m-clause-stands_value c =
     let a = c.args in
     let r = c.limit in
-    let m = c.blocked_for-m in
-    let e = row_off a.s.now a.t a.q a.i r.result r.ensures c.requires.s_value (late a.s.now a.t a.q c.requires.q_value) m.result m.ensures c.if-m-eq0.true in
-    record { stands_value = sym e; time_value = rw e }
+    let o = c.blocked_for in
+    rw (c.from_residual.ensures, row_off a.s.now a.t a.q a.i r.result r.ensures c.requires.s_value (late a.s.now a.t a.q c.requires.q_value) o.result o.ensures c.in_err-m.was)
+
+pub returns-in_err-m-clause-time_value : goal.returns-in_err-m-clause-time_value
+returns-in_err-m-clause-time_value c =
+    let a = c.args in
+    let r = c.limit in
+    let o = c.blocked_for in
+    rw (c.from_residual.ensures, row_off a.s.now a.t a.q a.i r.result r.ensures c.requires.s_value (late a.s.now a.t a.q c.requires.q_value) o.result o.ensures c.in_err-m.was)
 
 pub overflow_sub-result : goal.overflow_sub-result
 overflow_sub-result c =
     let a = c.args in
     let r = c.limit in
-    let m = c.blocked_for-m in
-    (row_time a.s.now a.t a.q a.i r.result r.ensures c.requires.s_value (late a.s.now a.t a.q c.requires.q_value) m.result m.ensures c.if-m-eq0.false).0
+    let o = c.blocked_for in
+    (row_time a.s.now a.t a.q a.i r.result r.ensures c.requires.s_value (late a.s.now a.t a.q c.requires.q_value) o.result o.ensures c.in_ok-m.m c.in_ok-m.was).0
 
 pub overflow_sub-result-2 : goal.overflow_sub-result-2
 overflow_sub-result-2 c =
     let a = c.args in
     let r = c.limit in
-    let m = c.blocked_for-m in
-    (row_time a.s.now a.t a.q a.i r.result r.ensures c.requires.s_value (late a.s.now a.t a.q c.requires.q_value) m.result m.ensures c.if-m-eq0.false).1.0
+    let o = c.blocked_for in
+    (row_time a.s.now a.t a.q a.i r.result r.ensures c.requires.s_value (late a.s.now a.t a.q c.requires.q_value) o.result o.ensures c.in_ok-m.m c.in_ok-m.was).1.0
 
-pub returns : goal.returns
-returns c =
+pub returns-clause-stands_value : goal.returns-clause-stands_value
+returns-clause-stands_value c =
     let a = c.args in
     let r = c.limit in
-    let m = c.blocked_for-m in
-    let e = (row_on a.s.now a.t a.q a.i r.result r.ensures c.requires.s_value (late a.s.now a.t a.q c.requires.q_value) m.result m.ensures c.if-m-eq0.false).0 in
-    let d = (row_time a.s.now a.t a.q a.i r.result r.ensures c.requires.s_value (late a.s.now a.t a.q c.requires.q_value) m.result m.ensures c.if-m-eq0.false).1.1 in
-    record { stands_value = sym e; time_value = rw e d }
+    let o = c.blocked_for in
+    sym (row_on a.s.now a.t a.q a.i r.result r.ensures c.requires.s_value (late a.s.now a.t a.q c.requires.q_value) o.result o.ensures c.in_ok-m.m c.in_ok-m.was).0
+
+pub returns-clause-time_value : goal.returns-clause-time_value
+returns-clause-time_value c =
+    let a = c.args in
+    let r = c.limit in
+    let o = c.blocked_for in
+    let e = (row_on a.s.now a.t a.q a.i r.result r.ensures c.requires.s_value (late a.s.now a.t a.q c.requires.q_value) o.result o.ensures c.in_ok-m.m c.in_ok-m.was).0 in
+    let d = (row_time a.s.now a.t a.q a.i r.result r.ensures c.requires.s_value (late a.s.now a.t a.q c.requires.q_value) o.result o.ensures c.in_ok-m.m c.in_ok-m.was).1.1 in
+    rw e d

@@ -1,26 +1,14 @@
 -- `request::tally` meets its contract. Assumes nothing.
-use mathlib.Core.Path.{sym, ◌∙◌}
-use Rattle.request.specs.Request.{tallied}
-use Rattle.request.proofs.Acting.{counter_of}
-use borrow.Author.Rules.{rules}
+use native.Mathlib.Omega.{arith}
+use mathlib.Core.Path.{◌∙◌}
+use Rattle.request.proofs.Acting.{tally_on, tally_below, tally_above}
 use Rattle.request.proofs.tally.Goals as goal
 
-pub returns-then-not-counts : goal.returns-then-not-counts
-unfolding tallied
-returns-then-not-counts c = let k = c.counts in rw (sym k.ensures ∙ c.if-not-counts.true)
+pub returns-then-n-lt11 : goal.returns-then-n-lt11
+returns-then-n-lt11 c = tally_below c.args.s.now c.args.n (grind arith)
 
-pub overflow_sub-n : goal.overflow_sub-n
-overflow_sub-n c =
-    let k = c.counts in
-    (counter_of c.args.n (sym k.ensures ∙ c.if-not-counts.false)).0
+pub returns-in-11-to-16 : goal.returns-in-11-to-16
+returns-in-11-to-16 c = c.bump.ensures ∙ tally_on c.args.s.now c.args.n (grind arith) (grind arith)
 
-pub bump-requires : goal.bump-requires
-bump-requires c =
-    let k = c.counts in
-    record { s_len = search rules; i_bound = (counter_of c.args.n (sym k.ensures ∙ c.if-not-counts.false)).1 }
-
-pub returns : goal.returns
-unfolding tallied
-returns c =
-    let k = c.counts in
-    rw (sym k.ensures ∙ c.if-not-counts.false) c.bump.ensures
+pub returns-else-n-lt17 : goal.returns-else-n-lt17
+returns-else-n-lt17 c = tally_above c.args.s.now c.args.n (grind arith)

@@ -1,10 +1,7 @@
 -- `rows::begins` meets its contract. Assumes nothing.
-use Rattle.rows.proofs.Reading.{begins_end, begins_at}
-use mathlib.Core.Path.{sym}
+use mathlib.Core.Path.{refl, ◌∙◌}
+use Rattle.rows.proofs.Reading.{looked_up}
 use Rattle.rows.proofs.begins.Goals as goal
 
-pub returns-then-line-at : goal.returns-then-line-at
-returns-then-line-at c = sym (begins_end c.args.line.now c.args.at c.args.x c.if-line-at.true)
-
 pub returns : goal.returns
-returns c = sym (begins_at c.args.line.now c.args.at c.args.x c.if-line-at.false)
+returns c = c.eq.ensures ∙ looked_up c.args.x c.args.line.now c.args.at _ _ c.get.ensures.lookup.3 refl

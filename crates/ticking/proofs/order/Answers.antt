@@ -7,7 +7,7 @@ use Rattle.ticking.proofs.Ticking.{moved_shape}
 use Rattle.ticking.proofs.order.Goals as goal
 
 pub send-requires : goal.send-requires
-send-requires c = moved_shape c.args.s.now c.requires.s_value c.args.t c.advance.ensures
+send-requires c = moved_shape c.args.s.now c.requires c.args.t c.advance.ensures
 
 pub returns : goal.returns
 returns c =

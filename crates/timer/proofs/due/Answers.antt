@@ -1,19 +1,12 @@
 -- `timer::due` meets its contract. Assumes nothing.
 use Rattle.buffer.proofs.Sane.{imsi_low}
-use Rattle.timer.proofs.Timer.{T1_low, not_permanent, not_begun, begun, due_fits}
-use mathlib.Core.Path.{ap}
-use mathlib.Core.Bool.{not}
+use Rattle.timer.proofs.Timer.{T1_low, stays, begun, due_fits}
 use Rattle.timer.proofs.due.Goals as goal
 
-pub returns-then-not-permanent : goal.returns-then-not-permanent
-returns-then-not-permanent c =
+pub returns-then-not-permanent-may_run : goal.returns-then-not-permanent-may_run
+returns-then-not-permanent-may_run c =
     let a = c.args in
-    not_permanent a.s.now a.t a.column a.cause c.permanent.ensures (ap not c.if-not-permanent.true) c.due.ensures
-
-pub returns-then-not-may_run : goal.returns-then-not-may_run
-returns-then-not-may_run c =
-    let a = c.args in
-    not_begun a.s.now a.t a.column a.cause c.permanent.ensures (ap not c.if-not-permanent.false) c.may_run.ensures (ap not c.if-not-may_run.true) c.due-then-not-may_run.ensures
+    stays a.s.now a.t a.column a.cause c.permanent.ensures c.may_run.ensures c.if-not-permanent-may_run.true
 
 pub draw-requires : goal.draw-requires
 draw-requires c = imsi_low c.args.s.now c.requires.s_value c.imsi.ensures
@@ -27,5 +20,5 @@ overflow_add-result c = record { fits = due_fits c.args.s.now c.requires.s_value
 pub returns : goal.returns
 returns c =
     let a = c.args in
-    begun a.s.now a.t a.column a.cause c.permanent.ensures (ap not c.if-not-permanent.false) c.may_run.ensures (ap not c.if-not-may_run.false)
+    begun a.s.now a.t a.column a.cause c.permanent.ensures c.may_run.ensures c.if-not-permanent-may_run.false
     c.imsi.ensures c.draw.ensures c.delay.ensures

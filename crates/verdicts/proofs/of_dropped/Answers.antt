@@ -7,9 +7,8 @@ use Rattle.outcome.proofs.Outcomes.{dropped_refusal}
 use Rattle.verdicts.proofs.Verdicts.{checks_only}
 use Rattle.verdicts.proofs.of_dropped.Goals as goal
 
-pub returns : goal.returns
+pub returns-clause-value : goal.returns-clause-value
 unfolding facts_of verdict
-returns c =
-    let n = c.refuse in
-    let d = dropped_refusal c.args.s.now c.args.t n.result n.ensures c.timely.ensures c.standing.ensures in
-    checks_only c.args.s.now c.requires.s_value c.args.t dropped n.result d refl
+returns-clause-value c =
+    let d = dropped_refusal c.args.s.now c.args.t _ c.refuse.ensures c.timely.ensures in
+    rw c.and.ensures (checks_only c.args.s.now c.requires c.args.t dropped c.refuse.result d refl)

@@ -6,7 +6,7 @@ use Rattle.rules.specs.Rules.{refusal, in_range, stands, verdict}
 use Rattle.verdicts.proofs.Verdicts.{checks_only}
 use Rattle.verdicts.proofs.of_granted.Goals as goal
 
-pub returns : goal.returns
+pub returns-clause-value : goal.returns-clause-value
 unfolding refusal in_range stands verdict
-returns c =
-    checks_only c.args.s.now c.requires.s_value c.args.t (outcome c.args.service granted) c.checks.result c.checks.ensures refl
+returns-clause-value c =
+    rw c.and.ensures (checks_only c.args.s.now c.requires c.args.t (outcome c.args.number granted) c.checks.result c.checks.ensures.check refl)

@@ -5,22 +5,20 @@ use Rattle.buffer.specs.Layout.{facts_of}
 use Rattle.ticking.proofs.Ticking.{in_time, late, ruled}
 use Rattle.verdicts.proofs.of_tick.Goals as goal
 
-pub returns-then-not-timely : goal.returns-then-not-timely
+pub returns-then-not-timely-clause-value : goal.returns-then-not-timely-clause-value
 unfolding facts_of
-returns-then-not-timely c =
-    sym (late c.args.s.now c.requires.s_value c.args.t (sym c.timely.ensures ∙ c.if-not-timely.true))
+returns-then-not-timely-clause-value c = sym (late c.args.s.now c.requires c.args.t (sym c.timely.ensures ∙ c.if-not-timely.true))
 
-pub orders-requires : goal.orders-requires
+pub orders-requires-clause-s_bound : goal.orders-requires-clause-s_bound
 unfolding facts_of
-orders-requires c =
-    record { s_len = c.requires.s_len; s_value = c.requires.s_value; s_bound = in_time c.args.s.now c.requires.s_value c.args.t (sym c.timely.ensures ∙ c.if-not-timely.false) }
+orders-requires-clause-s_bound c = in_time c.args.s.now c.requires c.args.t (sym c.timely.ensures ∙ c.if-not-timely.false)
 
-pub returns-then-orders : goal.returns-then-orders
+pub returns-then-orders-clause-value : goal.returns-then-orders-clause-value
 unfolding facts_of
-returns-then-orders c =
-    sym (ruled c.args.s.now c.requires.s_value c.args.t (sym c.timely.ensures ∙ c.if-not-timely.false) true (sym c.orders.ensures ∙ c.if-orders.true))
+returns-then-orders-clause-value c =
+    sym (ruled c.args.s.now c.requires c.args.t (sym c.timely.ensures ∙ c.if-not-timely.false) true (sym c.orders.ensures ∙ c.if-orders.true))
 
-pub returns : goal.returns
+pub returns-clause-value : goal.returns-clause-value
 unfolding facts_of
-returns c =
-    sym (ruled c.args.s.now c.requires.s_value c.args.t (sym c.timely.ensures ∙ c.if-not-timely.false) false (sym c.orders.ensures ∙ c.if-orders.false))
+returns-clause-value c =
+    sym (ruled c.args.s.now c.requires c.args.t (sym c.timely.ensures ∙ c.if-not-timely.false) false (sym c.orders.ensures ∙ c.if-orders.false))

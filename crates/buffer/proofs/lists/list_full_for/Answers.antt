@@ -4,6 +4,7 @@ use lib.Seq.{take-take}
 use Rattle.buffer.specs.Layout.{row}
 use Rattle.buffer.specs.Lists.{Listed}
 use Rattle.permits.specs.Permits.{full_for}
+use Rattle.refusals.specs.Refusals.{above_zero}
 use Rattle.buffer.specs.Segments.{part}
 use Prim.Native.Nat.{ℕ, ◌+◌, ◌*◌, ◌-◌}
 use mathlib.Core.Path.{◌≡◌, ap, ◌∙◌}
@@ -28,4 +29,4 @@ full_for-requires c =
 pub returns : goal.returns
 returns c =
     let a = c.args in
-    c.full_for.ensures ∙ ap (full_for a.t a.most) (lent a.s.now a.k c.requires.listed)
+    c.full_for.ensures ∙ ap (λ (l : List ℕ). above_zero (full_for a.t a.most l)) (lent a.s.now a.k c.requires.listed)
