@@ -14,10 +14,10 @@ const PLACES: usize = 1400;
 const BYTES: usize = 4 * PLACES;
 
 // The number in the two bytes from a place on.
-fn small(b: &[u8], at: usize) -> usize
+fn small(b: &[u8], at: usize) -> u16
     requires { at + 2 ≤ length b.now }
 {
-    u16::from_le_bytes([b[at], b[at + 1]]) as usize
+    u16::from_le_bytes([b[at], b[at + 1]])
 }
 
 // The numbers of a buffer's bytes.
@@ -49,12 +49,12 @@ fn judged(s: &[u32; PLACES], n: usize) -> u8 {
 
 // One record.
 fn case(bases: &[[u8; BYTES]], edits: &[u8; 40]) -> u8 {
-    let Some(base) = bases.get(small(edits, 0)) else {
+    let Some(base) = bases.get(usize::from(small(edits, 0))) else {
         return b'?';
     };
     let mut s = numbers(base);
     store(&mut s, edits);
-    judged(&s, small(edits, 2))
+    judged(&s, usize::from(small(edits, 2)))
 }
 
 fn main(rt: HostRuntime) -> io::Result<()> {

@@ -7,7 +7,6 @@ use native.Mathlib.Omega.{arith}
 use lib.ListN.{length-append, length, get_or, take, drop, set, drop_of_length-le}
 use lib.Seq.{take_at, length-take-le, sets, sets-eq, take_all, take-suc-set, drop-cons, drop-drop, get_or-take, get_or-drop}
 use borrow.Rule.Slice.PartMut.{put_mid}
-use Rattle.std.specs.Int.{from_le_bytes, w32}
 use Rattle.std.specs.Simd.{first_chunks}
 use Rattle.std.proofs.lemmas.Slice.{take-put_mid}
 use Rattle.image.specs.Image.{four, number, image_of, numbers_of}
@@ -62,16 +61,20 @@ chunk_at (suc n) (suc i) l h =
 byte : (l : List ℕ) (j k : ℕ) → k < 4 → get_or (take 4 (drop j l)) k 0 ≡ get_or l (j + k) 0
 byte l j k h = get_or-take 4 (drop j l) k 0 h ∙ get_or-drop j l k 0
 
+-- the number of four bytes in a row
+abbrev number_in : List ℕ → ℕ
+number_in p = number (get_or p 0 0) (get_or p 1 0) (get_or p 2 0) (get_or p 3 0)
+
 -- a turn of the loop that reads, and its end
 module _ (bytes l : List ℕ) (i : ℕ) (so : take i l ++ numbers_of (drop (4 * i) bytes) ≡ numbers_of bytes) where
-  pub read_next : (n : ℕ) (f : List (List ℕ)) → i < length l → length bytes ≡ 4 * length l → f ≡ first_chunks 4 (length bytes / 4) bytes → n ≡ from_le_bytes w32 (get_or f i []) → take (i + 1) (set l i n) ++ numbers_of (drop (4 * (i + 1)) bytes) ≡ numbers_of bytes
+  pub read_next : (n : ℕ) (f : List (List ℕ)) → i < length l → length bytes ≡ 4 * length l → f ≡ first_chunks 4 (length bytes / 4) bytes → n ≡ number_in (get_or f i []) → take (i + 1) (set l i n) ++ numbers_of (drop (4 * (i + 1)) bytes) ≡ numbers_of bytes
   read_next n f h k g e =
       let j : ℕ = 4 * i in
       let s : 4 * (i + 1) ≡ j + 4 = omega arith in
       let c : get_or f i [] ≡ take 4 (drop j bytes) = ap (λ (f : List (List ℕ)). get_or f i []) g ∙ chunk_at (length bytes / 4) i bytes (omega arith) in
       let rest : List ℕ = numbers_of (drop (j + 4) bytes) in
       let p : List ℕ = take 4 (drop j bytes) in
-      let q : n ≡ get_or p 0 0 + get_or p 1 0 * 256 + get_or p 2 0 * 65536 + get_or p 3 0 * 16777216 = e ∙ ap (from_le_bytes w32) c in
+      let q : n ≡ number_in p = e ∙ ap number_in c in
       let z : get_or p 0 0 ≡ get_or bytes j 0 = byte bytes j 0 (omega arith) ∙ ap (λ (k : ℕ). get_or bytes k 0) (omega arith) in
       let v : n ≡ number (get_or bytes j 0) (get_or bytes (j + 1) 0) (get_or bytes (j + 2) 0) (get_or bytes (j + 3) 0)
       = omega (arith, q, z, byte bytes j 1 (omega arith), byte bytes j 2 (omega arith), byte bytes j 3 (omega arith)) in

@@ -154,14 +154,19 @@ fn closed(line: &[u8], out: &mut [u8; 256]) -> usize
     n + 1
 }
 
-// An AT line, of which its name is read.
+// The AT line of an A line. On a bad buffer it is not copied.
 fn types(s: &mut [u32], line: &[u8], ok: bool) -> Answer
-    requires { ok ≡ good s.old }
-    ensures { Says s.old (typed (read_line line.now)) result s.new }
+    requires ok_value { ok ≡ good s.old }
+    requires line_len { (2 ≤ length line.now) × (length line.now ≤ 256) }
+    ensures { Says s.old (typed (read_line (drop 2 line.now ++ (13 ∷ [])))) result s.new }
 {
-    let mut room = [0u8; 16];
     match known(s, ok) {
-        Some(state) => refusals::told(command::command_in(state, line, &mut room)),
+        Some(state) => {
+            let mut text = [0u8; 256];
+            let n = closed(line, &mut text);
+            let mut room = [0u8; 16];
+            refusals::told(command::command_in(state, &text[..n], &mut room))
+        }
         None => Refusal::Buffer.into(),
     }
 }
@@ -175,9 +180,7 @@ fn typed_line(s: &mut [u32], line: &[u8], ok: bool) -> Option<Answer>
     if !rows::begins(line, 1, b' ') {
         return None;
     }
-    let mut text = [0u8; 256];
-    let n = closed(line, &mut text);
-    Some(types(s, &text[..n], ok))
+    Some(types(s, line, ok))
 }
 
 // What a line says is done; `None` where it is ill-formed. `ok` says whether the buffer is good.

@@ -44,10 +44,10 @@ fn save_in(s: &Buffer, out: &mut [u8; 32])
 pub fn save(s: &mut [u32], out: &mut [u8]) -> Answer
     ensures { SaveSays s.old out.old result s.new out.new }
 {
-    let Some(state) = inspect::good(s) else {
+    let Some(room) = out.as_mut_array() else {
         return Refusal::Buffer.into();
     };
-    let Some(room) = out.as_mut_array() else {
+    let Some(state) = inspect::good(s) else {
         return Refusal::Buffer.into();
     };
     save_in(state, room);

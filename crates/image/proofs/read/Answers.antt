@@ -7,7 +7,7 @@ use Rattle.image.proofs.read.Goals as goal
 pub loop-i-preserved : goal.loop-i-preserved
 loop-i-preserved c =
     let l = c.loop-i in
-    read_next c.args.bytes.now l.numbers l.i l.invariant _ _ (omega arith) (omega arith) c.as_chunks.ensures.front c.from_le_bytes.ensures
+    read_next c.args.bytes.now l.numbers l.i l.invariant _ _ (omega arith) (omega arith) c.as_chunks.ensures.front c.number.ensures
 
 pub returns : goal.returns
 returns c = let l = c.loop-i in read_end c.args.bytes.now l.numbers l.i l.invariant (omega arith) (omega arith)

